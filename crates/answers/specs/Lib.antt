@@ -1,0 +1,3 @@
+-- What the contracts of every crate cite. Assumes nothing.
+pub mod Numbers
+pub mod Written

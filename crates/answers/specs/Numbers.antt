@@ -1,0 +1,29 @@
+-- The numbers a call can return, and the limit. Definitions only.
+use Prim.Native.Nat.{ℕ}
+use mathlib.Core.Bool.{Bool, true, false}
+use lib.Dec.{ltb}
+use Rattle.answers.specs.declared.Outcome.{Outcome}
+use Rattle.answers.specs.declared.Outcome.the-variants.{Done, LengthsDiffer, OutputShort, TooLong, OffGrid, WrongForm, WrongSum, WrongSequence}
+
+-- 01, 'Numbers a call can return': the number of each row of the table
+abbrev pub numberOf : Outcome → ℕ
+numberOf Done = 0
+numberOf LengthsDiffer = 1
+numberOf OutputShort = 2
+numberOf TooLong = 3
+numberOf OffGrid = 4
+numberOf WrongForm = 5
+numberOf WrongSum = 6
+numberOf WrongSequence = 7
+
+-- 01, row 3: "more than 65,536 places"
+abbrev pub longest : ℕ
+longest = 65536
+
+abbrev pub tooLong : ℕ → Bool
+tooLong n = ltb longest n
+
+-- 01, "Where several hold: 3, 1, 4, 2": a chain of refusals tests in that order; the first that holds is the answer
+abbrev pub refuse : Bool → Outcome → Outcome → Outcome
+refuse true a b = a
+refuse false a b = b

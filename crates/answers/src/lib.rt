@@ -1,0 +1,35 @@
+// How every call of the library ends, and the longest slice that is read. Each public answer has an Outcome, alone or beside its values.
+
+// The table of numbers a call can return, by name; `number_of` and `specs/Numbers.antt` give the numbers.
+pub enum Outcome {
+    Done,
+    LengthsDiffer,
+    OutputShort,
+    TooLong,
+    OffGrid,
+    WrongForm,
+    WrongSum,
+    WrongSequence,
+}
+
+// The longest slice of samples, codes or magnitudes that is read or filled, and the most pairs of a capture.
+pub const LONGEST: usize = 65536;
+
+ghost use mathlib.Core.Path.{_≡_};
+ghost use Rattle.answers.specs.Numbers.{numberOf};
+
+// The number of an outcome.
+pub fn number_of(o: Outcome) -> u8
+    ensures { λ r. ⌜ r ≡ numberOf o ⌝ }
+{
+    match o {
+        Outcome::Done => 0,
+        Outcome::LengthsDiffer => 1,
+        Outcome::OutputShort => 2,
+        Outcome::TooLong => 3,
+        Outcome::OffGrid => 4,
+        Outcome::WrongForm => 5,
+        Outcome::WrongSum => 6,
+        Outcome::WrongSequence => 7,
+    }
+}

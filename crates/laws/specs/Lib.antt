@@ -1,0 +1,5 @@
+-- What the laws speak of. Assumes nothing.
+pub mod Whole
+pub mod Walks
+pub mod Samples
+pub mod Filled

@@ -1,0 +1,20 @@
+-- What several figures ask of samples one by one. Definitions only.
+use mathlib.Core.Bool.{Bool, true, cond, _&&_, not}
+use mathlib.Core.List.{List}
+use lib.ListN.{length}
+use lib.Ieee.{Float, lt, isNan}
+use Rattle.laws.specs.Walks.{over}
+
+-- 01, "a sample replaces one only if strictly beyond it. A NaN never does": the greater of the extreme so far and a sample, and the lesser
+unfoldable pub higher : Float → Float → Float
+higher m x = cond (lt m x) x m
+
+unfoldable pub lower : Float → Float → Float
+lower m x = cond (lt x m) x m
+
+-- no sample is a NaN
+unfoldable pub stillNumbers : Bool → Float → Bool
+stillNumbers t x = t && not (isNan x)
+
+unfoldable pub allNumbers : List Float → Bool
+allNumbers xs = over stillNumbers true xs (length xs)

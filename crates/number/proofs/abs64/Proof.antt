@@ -1,0 +1,26 @@
+-- `number::abs64` meets its contract. Assumes nothing.
+use mathlib.Core.Path.{_≡_, sym, subst}
+use lib.Dec.{T}
+use lib.Ieee.{Float, binary64, fits}
+use Rattle.laws.proofs.Numbers.{is-nan, no-nan}
+use Rattle.number.proofs.Cleared.{cleared, cleared-no-nan, of-nan}
+use Rattle.number.proofs.abs64.Statement.{statement}
+use Rattle.number.proofs.abs64.Tie as tie
+
+held : (c : tie.Start) → T (fits binary64 (c .args .x))
+held c = subst T (sym (c .good .0 .1)) tt
+
+returns : tie.Need-returns
+returns c = of-nan (c .before .args .x) (is-nan (c .before .args .x) (c .if1 .taken))
+
+float-to-bits-result : tie.Need-float-to-bits-result
+float-to-bits-result c = no-nan (c .before .args .x) (c .if1 .left)
+
+float-from-bits-result : tie.Need-float-from-bits-result
+float-from-bits-result c = cleared-no-nan binary64 (c .before .args .x) (held (c .before)) (no-nan (c .before .args .x) (c .if1 .left))
+
+returns-2 : tie.Need-returns-2
+returns-2 c = cleared binary64 (c .before .args .x) (held (c .before))
+
+pub abs64-spec : {M : Type 1} → statement M
+abs64-spec = tie.close (tie.spec returns float-to-bits-result float-from-bits-result returns-2)
