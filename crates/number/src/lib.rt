@@ -1,9 +1,11 @@
-// The number kit: an `f64` as an `f32`, and the square root, worked out from the bit fields of the numbers.
+// The number kit: an `f64` as an `f32`, the square root, the absolute value and the nearest whole number, worked out from the bit fields
+// by shifts, masks, comparisons, additions and subtractions: no division, no remainder, no multiplication, and no call of a C library.
 // A contract cites `specs/Number.antt`, over the logic's account of IEEE 754 (`lib.Ieee`).
 ghost use mathlib.Core.Path.{_≡_};
 ghost use mathlib.Core.Bool.{Bool, false, cond};
 ghost use Prim.Native.Nat.{ℕ, _+_, _-_, _*_, _/_, _%_, _^_, _<_, _≤_};
 ghost use lib.Ieee.{Format, binary32, binary64, prec, emax, ofFields, toBits};
+ghost use lib.Dec.{leb};
 ghost use lib.Ieee.Nearest.{closest};
 ghost use Rattle.number.specs.Number as Number;
 
@@ -49,6 +51,14 @@ pub fn narrow(x: f64) -> f32
     f32::from_bits((((bits >> 63) << 31) | fields) as u32)
 }
 
+// All ones where t is at most y, else 0, without a branch, which would be guessed wrong half of the time. (Of a `bool` the compiler makes one.)
+fn mask_le(t: u64, y: u64) -> u64
+    requires { ⌜ t < 2 ^ 63 ⌝ ∗ ⌜ y < 2 ^ 63 ⌝ }
+    ensures { λ r. ⌜ r ≡ cond (leb t y) (2 ^ 64 - 1) 0 ⌝ }
+{
+    std::num::wrapping_sub_u64(0, (y + 0x8000_0000_0000_0000 - t) >> 63)
+}
+
 // The whole part of the root of m * 2^(p + 1), which has p + 1 digits, one a turn, from the highest down.
 // q is the root so far, a multiple of w, and y is twice what its square leaves, in units of w.
 fn root_digits(m: u64, p: u64) -> u64
@@ -61,133 +71,12 @@ fn root_digits(m: u64, p: u64) -> u64
     while 1 < w {
         w = w >> 1;
         let t: u64 = q + q + w;
-        // 1 where t is at most y, and else 0: no branch, which would be guessed wrong half of the time
-        let b: u64 = (y + 0x8000_0000_0000_0000 - t) >> 63;
-        let z: u64 = y - t * b;
+        let mask: u64 = mask_le(t, y);
+        let z: u64 = y - (t & mask);
         y = z + z;
-        q = q + w * b;
+        q = q + (w & mask);
     }
     q
-}
-
-// A first guess at 1 / sqrt(u / 2^30), in units of 2^-32, for a u from 2^30 up: a - b x + c x^2, within one part in 36.
-// Nothing is proved of it but that it fits, and nothing hangs on it but time. (A table would be copied to the stack at each call.)
-fn first_guess(u: u64) -> u64
-    requires { ⌜ u < 2 ^ 32 ⌝ }
-    ensures { λ r. ⌜ r < 2 ^ 32 ⌝ }
-{
-    let t: u64 = (u * (1670679757 - ((u * 794652836) >> 32))) >> 30;
-    if 5649904435 < t {
-        return 0;
-    }
-    let r: u64 = 5649904435 - t;
-    if r < 0x1_0000_0000 { r } else { 0xffff_ffff }
-}
-
-// One step of Newton's method for 1 / sqrt(u / 2^30), in units of 2^-32.
-fn newton(u: u64, r: u64) -> u64
-    requires { ⌜ u < 2 ^ 32 ⌝ ∗ ⌜ r < 2 ^ 32 ⌝ }
-    ensures { λ v. ⌜ v < 2 ^ 32 ⌝ }
-{
-    let s: u64 = (u * r) >> 32;
-    let d: u64 = (s * r) >> 32;
-    if 0xc000_0000 < d {
-        return r;
-    }
-    let v: u64 = (r * (0xc000_0000 - d)) >> 31;
-    if v < 0x1_0000_0000 { v } else { r }
-}
-
-// What half of e / sqrt adds to a root, with r for 1 / sqrt.
-fn correction(e: u64, r: u64) -> u64
-    requires { ⌜ e < 2 ^ 38 ⌝ ∗ ⌜ r < 2 ^ 32 ⌝ }
-    ensures { λ v. ⌜ v < 2 ^ 30 ⌝ }
-{
-    ((e >> 8) * r) >> 34
-}
-
-// A guess at the whole part of the root of m * 2^54: right or one too small for an m from 2^52 up. It is checked, so its contract says nothing of that.
-fn root_guess(m: u64) -> u64
-    requires { ⌜ m < 2 ^ 54 ⌝ }
-    ensures { λ q. ⌜ q < 2 ^ 54 ⌝ }
-{
-    if m < 0x10_0000_0000_0000 {
-        return 0;
-    }
-    let n: u64 = m << 10;
-    let u: u64 = n >> 32;
-    let r: u64 = newton(u, newton(u, newton(u, first_guess(u))));
-    let s: u64 = (u * r) >> 31;
-    if s < 8 {
-        return 0;
-    }
-    let t: u64 = s - 8;
-    if 0xffff_ffff < t {
-        return 0;
-    }
-    if n < t * t {
-        return 0;
-    }
-    let e: u64 = n - t * t;
-    if 0x3f_ffff_ffff < e {
-        return 0;
-    }
-    let q: u64 = (t << 22) + correction(e, r);
-    if q < 0x40_0000_0000_0000 { q } else { 0 }
-}
-
-// What q * q leaves of m * 2^54, where that is small; else a number that is too large.
-fn root_rest(m: u64, q: u64) -> u64
-    requires { ⌜ m < 2 ^ 54 ⌝ ∗ ⌜ q < 2 ^ 54 ⌝ }
-    ensures { λ r. ⌜ (r ≤ 4 * q + 3 → q * q + r ≡ m * 2 ^ 54) ⌝ }
-{
-    let h: u64 = q >> 27;
-    let l: u64 = q & 0x7ff_ffff;
-    let hh: u64 = h * h;
-    if m < hh {
-        return 0xffff_ffff_ffff_ffff;
-    }
-    let a: u64 = m - hh;
-    if 0x3fff_ffff < a {
-        return 0xffff_ffff_ffff_ffff;
-    }
-    let hl: u64 = h * l;
-    if (a << 27) < hl + hl {
-        return 0xffff_ffff_ffff_ffff;
-    }
-    let b: u64 = (a << 27) - (hl + hl);
-    if 0x3fff_ffff < b {
-        return 0xffff_ffff_ffff_ffff;
-    }
-    let ll: u64 = l * l;
-    if (b << 27) < ll {
-        return 0xffff_ffff_ffff_ffff;
-    }
-    (b << 27) - ll
-}
-
-// The whole part of the root of m * 2^54: a guess that is checked, and digit by digit where it fails.
-fn root_checked(m: u64) -> u64
-    requires { ⌜ m < 2 ^ 54 ⌝ }
-    ensures { λ r. ⌜ r ≡ Number.wholeRoot (m * 2 ^ 54) ⌝ }
-{
-    let q: u64 = root_guess(m);
-    let rest: u64 = root_rest(m, q);
-    if rest <= q + q {
-        return q;
-    }
-    if rest <= q + q + q + q + 3 {
-        return q + 1;
-    }
-    root_digits(m, 53)
-}
-
-// The whole part of the root of m * 2^(p + 1): the root of a number that is larger by a power of four, with the digits cut that that adds.
-fn root_whole(m: u64, p: u64) -> u64
-    requires { ⌜ m < 2 ^ (p + 1) ⌝ ∗ ⌜ p ≤ 53 ⌝ }
-    ensures { λ r. ⌜ r ≡ Number.wholeRoot (m * 2 ^ (p + 1)) ⌝ }
-{
-    root_checked(m << (53 - p)) >> (53 - p)
 }
 
 // The bit pattern of the root of m * 2^(p + 1 + g), for an m of p digits: the root's p + 1 digits rounded to p, beside half of g.
@@ -195,7 +84,7 @@ fn root_of(m: u64, g: u64, p: u64) -> u64
     requires { ⌜ m < 2 ^ p ⌝ ∗ ⌜ 1 ≤ p ⌝ ∗ ⌜ p ≤ 53 ⌝ ∗ ⌜ g < 4096 ⌝ }
     ensures { λ r. ⌜ r ≡ g / 2 * 2 ^ (p - 1) + (Number.wholeRoot (m * 2 ^ (g % 2) * 2 ^ (p + 1)) + 1) / 2 ⌝ }
 {
-    ((g >> 1) << (p - 1)) + ((root_whole(m << (g & 1), p) + 1) >> 1)
+    ((g >> 1) << (p - 1)) + ((root_digits(m << (g & 1), p) + 1) >> 1)
 }
 
 // The bit pattern of the root of the value above zero with this exponent's field and these digits, in the format of p digits and
@@ -264,16 +153,6 @@ pub fn abs32(x: f32) -> f32
         return x;
     }
     f32::from_bits(f32::to_bits(x) & 0x7fff_ffff)
-}
-
-// The absolute value of x.
-pub fn abs64(x: f64) -> f64
-    ensures { λ r. ⌜ r ≡ Number.abs x ⌝ }
-{
-    if x != x {
-        return x;
-    }
-    f64::from_bits(f64::to_bits(x) & 0x7fff_ffff_ffff_ffff)
 }
 
 // The fields below the sign of the whole number nearest to the `f32` of this magnitude, a half away from zero.

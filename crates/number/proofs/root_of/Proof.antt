@@ -12,7 +12,7 @@ use Rattle.number.proofs.root_of.Statement.{statement}
 use Rattle.number.proofs.root_of.Tie as tie
 use Rattle.number.proofs.root_of.Reads as reads
 use Rattle.number.proofs.root_of.Lts as lts
-use Rattle.number.proofs.root_whole.Reads as root-whole-reads
+use Rattle.number.proofs.root_digits.Reads as root-digits-reads
 
 cap : (p : ℕ) → p ≤ 53 → 2 ^ (p + 1) ≤ 2 ^ 54
 cap p h = pow-mono {i = p + 1} {j = 54} (omega arith)
@@ -38,23 +38,23 @@ sub-result c = search needs
 shl-result : tie.Need-shl-result
 shl-result c = search needs
 
-shl-root-whole : tie.Need-shl-root-whole
-shl-root-whole c = omega (arith, and-le-r (c .args .g) 1)
+shl-root-digits : tie.Need-shl-root-digits
+shl-root-digits c = omega (arith, and-le-r (c .args .g) 1)
 
-root-whole-requires : tie.Need-root-whole-requires
-root-whole-requires c κs =
+root-digits-requires : tie.Need-root-digits-requires
+root-digits-requires c κs =
     let m = c .args .m in
     let g = c .args .g in
     let p = c .args .p in
     (subst (λ (x : ℕ). x < 2 ^ (p + 1)) (sym (doubled m g p (search needs) (search needs))) (under-lt p m g (search needs)), search needs)
 
 -- what the call returns
-result : (c : tie.After-root-whole) → c .root-whole .result ≡ wholeRoot (Under (c .before .args .p) (c .before .args .m) (c .before .args .g))
+result : (c : tie.After-root-digits) → c .root-digits .result ≡ wholeRoot (Under (c .before .args .p) (c .before .args .m) (c .before .args .g))
 result c =
     let p = c .before .args .p in
-    c .root-whole .ensures ∙ ap (λ (x : ℕ). wholeRoot (x * 2 ^ (p + 1))) (doubled (c .before .args .m) (c .before .args .g) p (search needs) (search needs))
+    c .root-digits .ensures ∙ ap (λ (x : ℕ). wholeRoot (x * 2 ^ (p + 1))) (doubled (c .before .args .m) (c .before .args .g) p (search needs) (search needs))
 
-bound : (c : tie.After-root-whole) → c .root-whole .result < 2 ^ 54
+bound : (c : tie.After-root-digits) → c .root-digits .result < 2 ^ 54
 bound c =
     let p = c .before .args .p in
     subst (λ (x : ℕ). x < 2 ^ 54) (sym (result c)) (lt-of-lt-of-le (under-root-lt p (c .before .args .m) (c .before .args .g) (search needs)) (cap p (search needs)))
@@ -72,7 +72,7 @@ returns : tie.Need-returns
 returns c =
     let g = c .before .args .g in
     let p = c .before .args .p in
-    ap (λ (x : ℕ). x + (c .root-whole .result + 1) / 2) (placed g p (search needs) (search needs)) ∙ ap (λ (x : ℕ). g / 2 * 2 ^ (p - 1) + (x + 1) / 2) (result c)
+    ap (λ (x : ℕ). x + (c .root-digits .result + 1) / 2) (placed g p (search needs) (search needs)) ∙ ap (λ (x : ℕ). g / 2 * 2 ^ (p - 1) + (x + 1) / 2) (result c)
 
 pub root-of-spec : {M : Type 1} → statement M
-root-of-spec = tie.close (tie.spec sub-result shl-result shl-root-whole root-whole-requires add-result add-result-2 returns)
+root-of-spec = tie.close (tie.spec sub-result shl-result shl-root-digits root-digits-requires add-result add-result-2 returns)
