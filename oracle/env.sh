@@ -1,0 +1,15 @@
+# Sourced by the other scripts, from the folder of this file: how to build for x86-64 here, and how to run what was built.
+# On x86-64 that is cargo as it stands. Elsewhere it is Debian's cargo, rustc and cross linker, with the x86-64 library of the same rustc
+# unpacked in cross/, and an emulator; a time measured under an emulator says nothing.
+native=yes
+if [ "$(uname -m)" != x86_64 ]; then
+  native=
+  export PATH="/usr/bin:$PATH" RUSTC=/usr/bin/rustc
+  export CARGO_TARGET_X86_64_UNKNOWN_LINUX_GNU_LINKER=x86_64-linux-gnu-gcc
+  export CARGO_TARGET_X86_64_UNKNOWN_LINUX_GNU_RUNNER="qemu-x86_64 -L /usr/x86_64-linux-gnu"
+  CARGO_ENCODED_RUSTFLAGS=$(printf '%s\037' --cap-lints allow --sysroot)$PWD/cross/usr
+  export CARGO_ENCODED_RUSTFLAGS
+fi
+
+# the program that was built, with these arguments
+oracle() { cargo run --release --offline --quiet -- "$@"; }
