@@ -4,5 +4,5 @@ set -euo pipefail
 cd "$(dirname "$0")"
 ./setup.sh
 . ./env.sh
-[ -n "$native" ] || echo "This is not an x86-64 machine: the times below are an emulator's and say nothing." >&2
+[ -n "$native" ] || echo "No x86-64 machine: the times below are an emulator's and say nothing."
 oracle bench "$@"

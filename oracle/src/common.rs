@@ -276,16 +276,23 @@ pub struct Log {
 
 impl Log {
     pub fn new() -> Log {
-        Log { checks: Vec::new(), closed: 0 }
+        Log {
+            checks: Vec::new(),
+            closed: 0,
+        }
     }
 
     /// Opens a check. Several may be open at once.
     pub fn check(&mut self, name: &'static str) -> Check {
-        self.checks.push(Counts { name, calls: 0, differences: 0 });
+        self.checks.push(Counts {
+            name,
+            calls: 0,
+            differences: 0,
+        });
         Check(self.checks.len() - 1)
     }
 
-    /// Counts one call; `input` and the two answers are put into words only where they differ.
+    /// Counts one call; `words` gives the inputs and both answers, and is asked only where they differ.
     pub fn see(&mut self, check: Check, same: bool, words: impl FnOnce() -> String) {
         let counts = &mut self.checks[check.0];
         counts.calls += 1;
@@ -321,7 +328,10 @@ impl Log {
     /// Prints the checks of an area that has ended.
     pub fn close(&mut self, area: &str) {
         for counts in &self.checks[self.closed..] {
-            println!("{}: {}: {} calls, {} differences", area, counts.name, counts.calls, counts.differences);
+            println!(
+                "{}: {}: {} calls, {} differences",
+                area, counts.name, counts.calls, counts.differences
+            );
         }
         self.closed = self.checks.len();
     }
@@ -344,12 +354,13 @@ pub fn black_box<T>(value: T) -> T {
     value
 }
 
-/// The turns in which both sides are measured by turns; the best of each counts.
+/// How often the two sides are measured, one after the other; the best of each counts.
 const TURNS: u32 = 25;
 /// How long one side runs in one turn, at least.
 const TURN: Duration = Duration::from_millis(2);
 
-/// Measures both sides on the same inputs and prints a row of Markdown for each call.
+/// Measures both sides on the same inputs and prints a row of Markdown for each call. The ratio is Tilljingle's time over the Rust's:
+/// below 1 is faster than the Rust.
 pub struct Table {
     headed: bool,
 }
@@ -383,7 +394,14 @@ impl Table {
             our_best = our_best.min(time(&mut ours, our_repeats));
         }
         let (their_ns, our_ns) = (their_best / calls as f64, our_best / calls as f64);
-        println!("| {} | {} | {:.1} | {:.1} | {:.2} |", call, n, their_ns, our_ns, our_ns / their_ns);
+        println!(
+            "| {} | {} | {:.1} | {:.1} | {:.2} |",
+            call,
+            n,
+            their_ns,
+            our_ns,
+            our_ns / their_ns
+        );
     }
 }
 

@@ -40,7 +40,10 @@ areas! {
 
 fn usage() -> ExitCode {
     let names: Vec<_> = AREAS.iter().map(|area| area.name).collect();
-    eprintln!("oracle compare [AREA..] [ROUNDS] | oracle bench [AREA..]; areas: {}", names.join(" "));
+    eprintln!(
+        "oracle compare [AREA..] [ROUNDS] | oracle bench [AREA..]; areas: {}",
+        names.join(" ")
+    );
     ExitCode::from(2)
 }
 

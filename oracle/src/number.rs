@@ -1,6 +1,6 @@
 //! The number kit, against the hardware's instructions and libm.
 
-use crate::common::{bits32, bits64, black_box, edges32, edges64, Check, Log, Random, Table};
+use crate::common::{bits32, bits64, black_box, edges32, edges64, same32, same64, Check, Log, Random, Table};
 
 /// Random f64 of a full comparison; every f32 function sees each 97th pattern beside it.
 pub const ROUNDS: u64 = 24_000_000;
@@ -17,87 +17,124 @@ extern "C" {
 struct Wide {
     narrow: Check,
     root: Check,
-    root_libm: Check,
 }
 
 impl Wide {
+    fn open(log: &mut Log) -> Wide {
+        Wide {
+            narrow: log.check("tj_narrow: as f32"),
+            root: log.check("tj_sqrt64: f64::sqrt and libm::sqrt"),
+        }
+    }
+
     fn see(&self, log: &mut Log, x: f64) {
         let (narrow, root) = unsafe { (tj_narrow(x), tj_sqrt64(x)) };
         log.see32(self.narrow, narrow, black_box(x) as f32, || bits64(x));
-        log.see64(self.root, root, black_box(x).sqrt(), || bits64(x));
-        log.see64(self.root_libm, root, libm::sqrt(x), || bits64(x));
+        log.see64(self.root, root, agreed64(black_box(x).sqrt(), libm::sqrt(x)), || {
+            bits64(x)
+        });
     }
 }
 
 /// The checks of one f32.
 struct Slim {
     root: Check,
-    root_libm: Check,
     abs: Check,
     round: Check,
 }
 
 impl Slim {
+    fn open(log: &mut Log) -> Slim {
+        Slim {
+            root: log.check("tj_sqrt32: f32::sqrt and libm::sqrtf"),
+            abs: log.check("tj_abs32: libm::fabsf"),
+            round: log.check("tj_round32: libm::roundf"),
+        }
+    }
+
     fn see(&self, log: &mut Log, x: f32) {
         let (root, abs, round) = unsafe { (tj_sqrt32(x), tj_abs32(x), tj_round32(x)) };
-        log.see32(self.root, root, black_box(x).sqrt(), || bits32(x));
-        log.see32(self.root_libm, root, libm::sqrtf(x), || bits32(x));
+        log.see32(self.root, root, agreed32(black_box(x).sqrt(), libm::sqrtf(x)), || {
+            bits32(x)
+        });
         log.see32(self.abs, abs, libm::fabsf(x), || bits32(x));
         log.see32(self.round, round, libm::roundf(x), || bits32(x));
     }
 }
 
-/// An f64 of the kind with this number; `KINDS` kinds in all.
+/// The answer that the hardware and libm give alike; they are to differ nowhere.
+fn agreed64(hardware: f64, libm: f64) -> f64 {
+    assert!(
+        same64(hardware, libm),
+        "the hardware's root is {}, libm's {}",
+        bits64(hardware),
+        bits64(libm)
+    );
+    hardware
+}
+
+/// As `agreed64`.
+fn agreed32(hardware: f32, libm: f32) -> f32 {
+    assert!(
+        same32(hardware, libm),
+        "the hardware's root is {}, libm's {}",
+        bits32(hardware),
+        bits32(libm)
+    );
+    hardware
+}
+
+const SIGN: u64 = 1 << 63;
+const FRACTION: u64 = (1 << 52) - 1;
+
+/// How many kinds of f64 `wide_input` makes.
+const KINDS: u64 = 9;
+
+/// An f64 of the kind with this number.
 fn wide_input(random: &mut Random, kind: u64) -> f64 {
     let bits = random.bits();
-    let sign = bits & 1 << 63;
+    let sign = bits & SIGN;
     match kind {
         // any pattern
         0 | 1 => f64::from_bits(bits),
-        // a normal f32 and the middle between it and the next, a few places around
+        // a normal f32, or the tie above it
         2 | 3 => {
             let exponent = random.below(254) + 1023 - 126;
-            near_tie(random, sign | exponent << 52 | bits & 0x000F_FFFF_E000_0000)
+            let kept = bits & FRACTION & u64::MAX << 29;
+            let tie = random.below(2) << 28;
+            near(random, sign | exponent << 52 | kept | tie)
         }
-        // the same below f32's normal numbers: from a quarter of the smallest one up
+        // the same where f32 is subnormal: from a quarter of the smallest subnormal up to the smallest normal number
         4 => {
-            let exponent = random.below(27) + 1023 - 151;
+            let exponent = random.below(26) + 1023 - 151;
             let dropped = 29 + (1023 - 126 - exponent).min(24);
-            let kept = bits & 0x000F_FFFF_FFFF_FFFF & (u64::MAX << dropped);
-            let tie = if dropped > 52 { 0 } else { 1 << (dropped - 1) };
-            let middle = if random.below(2) == 0 { tie } else { 0 };
-            let nudge = random.below(5);
-            f64::from_bits((sign | exponent << 52 | kept | middle) + nudge - 2)
+            let kept = bits & FRACTION & u64::MAX << dropped;
+            let tie = random.below(2) << (dropped - 1) & FRACTION;
+            near(random, sign | exponent << 52 | kept | tie)
         }
         // around the place where narrowing turns to infinity
         5 => f64::from_bits(sign | (0x47EF_FFFF_F000_0000 + random.below(1 << 30) - (1 << 29))),
         // f64's subnormals, of every size
-        6 => f64::from_bits(sign | (bits & 0x000F_FFFF_FFFF_FFFF) >> random.below(52)),
-        // squares that are exact, and their neighbours, at any even power of two
-        _ => {
-            let root = ((bits & 0x03FF_FFFF) | 0x0200_0000) as f64;
-            let scale = f64::from_bits((1023 - 500 + 2 * random.below(450)) << 52);
-            let nudge = random.below(5);
-            f64::from_bits((root * root * scale).to_bits() + nudge - 2)
-        }
+        6 => f64::from_bits(sign | (bits & FRACTION) >> random.below(52)),
+        // squares: of 26 bits, which are exact, and of 53 bits, whose neighbours have roots near ties
+        7 => near_square(random, (bits & 0x03FF_FFFF | 0x0200_0000) as f64),
+        _ => near_square(random, (bits >> 11 | 1) as f64),
     }
 }
 
-const KINDS: u64 = 8;
+/// The square of this number, times any of many even powers of two; or a neighbour of it.
+fn near_square(random: &mut Random, root: f64) -> f64 {
+    let scale = f64::from_bits((1023 - 500 + 2 * random.below(450)) << 52);
+    near(random, (root * root * scale).to_bits())
+}
 
-/// These bits, whose last 29 are 0, or the middle before the next f32; within two places of it.
-fn near_tie(random: &mut Random, bits: u64) -> f64 {
-    let middle = random.below(2) << 28;
-    let nudge = random.below(5);
-    f64::from_bits((bits | middle) + nudge - 2)
+/// The f64 with these bits, or one at most two places from it.
+fn near(random: &mut Random, bits: u64) -> f64 {
+    f64::from_bits(bits + random.below(5) - 2)
 }
 
 pub fn compare(rounds: u64, log: &mut Log) {
-    let wide = Wide {
-        narrow: log.check("tj_narrow, as f32"),
-        root: log.check("tj_sqrt64, f64::sqrt"),
-        root_libm: log.check("tj_sqrt64, libm::sqrt"),
-    };
+    let wide = Wide::open(log);
     for x in edges64() {
         wide.see(log, x);
     }
@@ -107,12 +144,7 @@ pub fn compare(rounds: u64, log: &mut Log) {
         wide.see(log, x);
     }
 
-    let slim = Slim {
-        root: log.check("tj_sqrt32, f32::sqrt"),
-        root_libm: log.check("tj_sqrt32, libm::sqrtf"),
-        abs: log.check("tj_abs32, libm::fabsf"),
-        round: log.check("tj_round32, libm::roundf"),
-    };
+    let slim = Slim::open(log);
     for x in edges32() {
         slim.see(log, x);
         wide.see(log, x as f64);
@@ -132,8 +164,16 @@ macro_rules! row {
         $table.each(
             $name,
             $inputs.len(),
-            || $inputs.iter().for_each(|x| { black_box($theirs(black_box(*x))); }),
-            || $inputs.iter().for_each(|x| { black_box(unsafe { $ours(black_box(*x)) }); }),
+            || {
+                $inputs.iter().for_each(|x| {
+                    black_box($theirs(black_box(*x)));
+                })
+            },
+            || {
+                $inputs.iter().for_each(|x| {
+                    black_box(unsafe { $ours(black_box(*x)) });
+                })
+            },
         )
     };
 }
