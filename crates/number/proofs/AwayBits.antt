@@ -1,15 +1,14 @@
 -- `roundAway` of an `f32` by its fields, as a bit pattern. Assumes nothing.
 use mathlib.Core.Path.{_≡_, refl, sym, ap, _∙_, subst}
 use mathlib.Core.Logic.{inl, inr}
-use Prim.Native.Nat.{ℕ, zero, suc, _+_, _-_, _*_, _/_, _%_, _^_, _≤_, _<_}
-use native.Mathlib.Nat.{le-refl, le-trans, le-of-eq, le-of-lt, le-of-suc-le-suc, lt-of-lt-of-le, lt-of-le-of-lt, eq-or-lt-of-le, mul-one, one-mul, mul-assoc, mul-comm, mul-left-comm, mul-right-comm, mul-pos, add-mul, suc-mul, mul-le-mul-right, div-lt-iff-lt-mul, le-div-iff-mul-le, div-eq-of-lt, zero-lt-suc, eq-of-mul-eq-mul-right, pow-succ'}
+use Prim.Native.Nat.{ℕ, zero, suc, _+_, _-_, _*_, _/_, _^_, _≤_, _<_}
+use native.Mathlib.Nat.{le-trans, le-of-eq, le-of-lt, le-of-suc-le-suc, lt-of-lt-of-le, lt-of-le-of-lt, eq-or-lt-of-le, mul-one, one-mul, mul-assoc, mul-comm, mul-left-comm, mul-right-comm, mul-pos, add-mul, suc-mul, mul-le-mul-right, div-lt-iff-lt-mul, le-div-iff-mul-le, div-eq-of-lt, zero-lt-suc, eq-of-mul-eq-mul-right, pow-succ'}
 use native.Mathlib.Omega.{arith}
-use mathlib.Core.Bool.{Bool, true, false, not, cond}
-use lib.IntN.{ℤ}
+use mathlib.Core.Bool.{Bool, false, not, cond}
 use lib.Dec.{T, lit<, lit≤}
 use lib.Arith.{digits-div}
-use lib.Pow.{pow-add, pow-pos, pow-mono, shl-lt}
-use lib.Ieee.{Float, nan, inf, fin, Format, binary32, prec, emax, low, hid, top, up, down, odd, round, fits, isNan, ofFields, toBits}
+use lib.Pow.{pow-pos, pow-mono, shl-lt}
+use lib.Ieee.{Float, nan, inf, fin, Format, binary32, up, down, odd, round, fits, isNan, ofFields, toBits}
 use lib.Ieee.Fits.{down-pos, round-fits, nan-fits, inf-fits, odd-fits}
 use lib.Ieee.Exact.{HasValue, odd-sign, round-exact}
 use lib.Ieee.Nearest.{div-same}

@@ -1,13 +1,13 @@
 -- The sign's bit cleared is the absolute value, in either format. Assumes nothing.
 use mathlib.Core.Path.{_≡_, refl, sym, ap, ap₂, _∙_, subst}
-use Prim.Native.Nat.{ℕ, zero, suc, _+_, _-_, _*_, _/_, _%_, _^_, _≤_, _<_}
+use Prim.Native.Nat.{ℕ, zero, suc, _+_, _-_, _/_, _%_, _^_, _<_}
 use native.Mathlib.Nat.{mod-eq-of-lt, mod-lt, mod-mod-of-dvd, dvd-mul-right, mul-pos, zero-lt-suc}
 use mathlib.Core.Bool.{Bool, true, false, not, cond}
 use lib.Dec.{T, leb, eqb}
 use lib.Arith.{lt→nleb}
 use lib.Pow.{pow-pos}
 use lib.Bits.{bitAnd, and-mask}
-use lib.Ieee.{Float, nan, inf, fin, Format, binary32, binary64, prec, low, hid, ones, top, odd, fits, isNan, nanBits, ofFields, ofBits, toBits}
+use lib.Ieee.{Float, nan, inf, fin, Format, prec, low, hid, ones, top, odd, fits, isNan, nanBits, ofFields, ofBits, toBits}
 use lib.Ieee.Bits.{ofBits-toBits, nanBits-is, is-false}
 use Rattle.number.specs.Number.{abs}
 use Rattle.number.proofs.Fields.{expo, frac, top-is, ofBits-is}

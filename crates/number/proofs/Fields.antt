@@ -5,12 +5,12 @@ use Prim.Native.Nat.{ℕ, zero, suc, _+_, _-_, _*_, _/_, _%_, _^_, _≤_, _<_}
 use native.Mathlib.Nat.{div-eq-of-lt, mod-eq-of-lt, le-antisymm, le-of-suc-le-suc, div-lt-iff-lt-mul, le-div-iff-mul-le, one-mul, zero-mul}
 use native.Mathlib.Omega.{arith}
 use mathlib.Core.Bool.{Bool, true, false, not, _&&_, cond}
-use lib.Dec.{T, leb, ltb, eqb, leb→le, nleb→lt, eqb→eq, not-T, T-not}
-use lib.Pow.{field, pow-pos}
+use lib.Dec.{T, leb, ltb, eqb, leb→le, nleb→lt, eqb→eq}
+use lib.Pow.{field}
 use lib.Bits.{bitAnd, bitOr, and-mask, mask-lt, or-shifted}
-use lib.Ieee.{Float, nan, inf, fin, Format, binary32, binary64, prec, low, emax, hid, ones, top, fits, isNan, nanBits, ofFields, ofBits, toBits, odd, units, round}
-use lib.Ieee.Bits.{ofBits-toBits, toBits-lt, nanBits-is, is-true, is-false}
-use lib.Ieee.Fits.{and-i, eq→eqb, round-is}
+use lib.Ieee.{Float, inf, Format, binary32, binary64, prec, low, emax, hid, ones, top, fits, isNan, nanBits, ofFields, ofBits, toBits, odd, units, round}
+use lib.Ieee.Bits.{ofBits-toBits, toBits-lt, nanBits-is}
+use lib.Ieee.Fits.{eq→eqb, round-is}
 use lib.Ieee.Order.{drop, kept}
 
 -- how many digits the exponent's field has, and how many lie below it

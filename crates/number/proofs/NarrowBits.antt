@@ -1,12 +1,11 @@
 -- `narrow` of a value by its fields, as a bit pattern. Assumes nothing.
-use mathlib.Core.Path.{_≡_, refl, sym, ap, _∙_, subst}
+use mathlib.Core.Path.{_≡_, refl, sym, ap, _∙_}
 use Prim.Native.Nat.{ℕ, zero, suc, _+_, _-_, _*_, _/_, _%_, _^_, _≤_, _<_, min, compare}
-use native.Mathlib.Nat.{le-trans, le-of-suc-le-suc, eq-or-lt-of-le, le-of-eq, lt-of-lt-of-le, mul-one, mul-assoc}
+use native.Mathlib.Nat.{le-trans, le-of-suc-le-suc, eq-or-lt-of-le, lt-of-lt-of-le, mul-assoc}
 use native.Mathlib.Omega.{arith}
 use mathlib.Core.Logic.{inl, inr}
-use mathlib.Core.Bool.{Bool, true, false, not, cond}
-use lib.IntN.{ℤ}
-use lib.Dec.{T, eqb, eqb→eq, lit<, lit≤, not-T}
+use mathlib.Core.Bool.{Bool, not, cond}
+use lib.Dec.{T, eqb, eqb→eq, not-T}
 use lib.Pow.{pow-add, pow-pos, pow-mono, shr-lt}
 use lib.Ieee.{Float, nan, inf, fin, binary32, binary64, up, down, odd, round, fits, isNan, div, ofFields, ofBits, toBits}
 use lib.Ieee.Bits.{cond-no}

@@ -2,15 +2,14 @@
 use mathlib.Core.Path.{_≡_, refl, sym, ap, _∙_, subst}
 use mathlib.Core.Logic.{inl, inr}
 use Prim.Native.Nat.{ℕ, zero, suc, _+_, _-_, _*_, _/_, _%_, _^_, _≤_, _<_, min, compare}
-use native.Mathlib.Nat.{le-refl, le-trans, le-of-eq, le-of-lt, lt-of-lt-of-le, lt-of-le-of-lt, lt-irrefl, mul-assoc, mul-comm, mul-right-comm, mul-left-comm, mul-mul-mul-comm, suc-mul, add-zero, zero-add, le-add-right, eq-zero-or-pos, mul-pos, mul-le-mul, mul-le-mul-right, eq-of-mul-eq-mul-right, mul-div-cancel, div-add-mod', mod-lt, add-mul, one-mul, pow-succ', pow-suc, mul-mod-left, zero-mul, mul-one, mul-le-mul-left, lt-of-not-le, mul-lt-mul-of-pos-right}
+use native.Mathlib.Nat.{le-trans, le-of-eq, le-of-lt, lt-of-lt-of-le, lt-of-le-of-lt, lt-irrefl, mul-assoc, mul-right-comm, mul-left-comm, mul-mul-mul-comm, suc-mul, add-zero, zero-add, le-add-right, eq-zero-or-pos, mul-pos, mul-le-mul, mul-le-mul-right, eq-of-mul-eq-mul-right, mul-div-cancel, div-add-mod', mod-lt, add-mul, pow-succ', pow-suc, mul-mod-left, zero-mul, mul-one, mul-le-mul-left, lt-of-not-le, mul-lt-mul-of-pos-right}
 use native.Mathlib.Numerals.{add-one}
 use native.Mathlib.Omega.{arith}
 use mathlib.Core.Bool.{Bool, true, false, cond, true≢false}
-use lib.IntN.{ℤ}
 use lib.Dec.{T, eqb, eqb→eq, lit≤, not-T}
 use lib.Arith.{digits-div, digits-mod}
 use lib.Pow.{pow-add, pow-pos, pow-mono, shl-lt}
-use lib.Ieee.{Float, nan, inf, fin, Format, binary32, binary64, prec, emax, odd, ofFields, low, up, down, hid, ones, top, nearest, round, toBits}
+use lib.Ieee.{Float, nan, inf, fin, Format, binary32, binary64, prec, emax, odd, ofFields, low, up, down, hid, ones, nearest, round, toBits}
 use lib.Ieee.Fits.{two, down-pos}
 use lib.Ieee.Exact.{HasValue, odd-sign}
 use lib.Ieee.Bits.{cond-no}

@@ -1,5 +1,5 @@
 -- The cases of a square root that a program tells apart by a float's bits, in either format: a NaN, a zero, what is negative, the infinity, and the rest. Assumes nothing.
-use mathlib.Core.Path.{_≡_, refl, sym, ap, ap₂, _∙_, subst}
+use mathlib.Core.Path.{_≡_, refl, sym, ap, ap₂, _∙_}
 use lib.IntN.{pos}
 use Prim.Native.Nat.{ℕ, zero, suc, _+_, _-_, _*_, _^_, _≤_, _<_}
 use native.Mathlib.Nat.{mul-pos, zero-mul, lt-of-lt-of-le, le-add-right, not-le-of-lt}
@@ -7,11 +7,11 @@ use native.Mathlib.Omega.{arith}
 use mathlib.Core.Bool.{Bool, true, false, not, cond, true≢false}
 use lib.Dec.{T, leb, eqb, le→leb, leb→le, not-T}
 use lib.Pow.{pow-pos}
-use lib.Ieee.{Float, nan, inf, fin, Format, binary32, binary64, prec, emax, low, hid, ones, top, up, down, odd, round, div, fits, isNan, ofFields, ofBits, toBits}
+use lib.Ieee.{Float, nan, inf, fin, Format, binary32, binary64, prec, emax, low, hid, ones, top, up, odd, div, fits, isNan, ofFields, ofBits, toBits}
 use lib.Ieee.Bits.{is-true, is-false}
 use lib.Ieee.Fits.{nan-fits, inf-fits, round-fits, down-pos, eq→eqb}
 use lib.Ieee.Exact.{HasValue, odd-sign}
-use Rattle.number.specs.Number.{root, wholeRoot}
+use Rattle.number.specs.Number.{root}
 use Rattle.number.proofs.Fields.{fieldOf, digitsOf, signOf, read-fields, no-digits, round-no-nan}
 
 pub zero-over-zero : (f : Format) → div f (ofBits f 0) (ofBits f 0) ≡ nan

@@ -1,12 +1,11 @@
 -- `wholeRoot n` is the one r with r * r ≤ n < (r + 1) * (r + 1); the digits that are worked out one by one are its digits (`Left`); and cutting j digits off a root
 -- is cutting 2 * j digits off the number (`root-cut`). Assumes nothing.
 use mathlib.Core.Path.{_≡_, refl, sym, ap, _∙_, subst}
-use Prim.Native.Nat.{ℕ, zero, suc, _+_, _-_, _*_, _/_, _%_, _^_, _≤_, _<_, zero-le}
-use native.Mathlib.Nat.{le-refl, le-trans, le-of-eq, le-antisymm, lt-irrefl, lt-of-lt-of-le, lt-of-le-of-lt, lt-of-not-le, le-of-suc-le-suc, zero-lt-suc, mul-comm, mul-assoc, mul-left-comm, mul-right-comm, mul-mul-mul-comm, mul-pos, one-mul, mul-add, add-mul, suc-mul, mul-suc, mul-le-mul, div-lt-iff-lt-mul, le-div-iff-mul-le, pow-suc, div-mul-le-self, le-of-mul-le-mul-right, lt-of-mul-lt-mul-right}
+use Prim.Native.Nat.{ℕ, zero, suc, _+_, _*_, _/_, _%_, _^_, _≤_, _<_, zero-le}
+use native.Mathlib.Nat.{le-refl, le-trans, le-of-eq, le-antisymm, lt-irrefl, lt-of-lt-of-le, lt-of-not-le, le-of-suc-le-suc, zero-lt-suc, mul-comm, mul-assoc, mul-left-comm, mul-right-comm, mul-mul-mul-comm, mul-pos, one-mul, mul-add, add-mul, suc-mul, mul-suc, mul-le-mul, div-lt-iff-lt-mul, le-div-iff-mul-le, pow-suc, div-mul-le-self, le-of-mul-le-mul-right, lt-of-mul-lt-mul-right}
 use native.Mathlib.Omega.{arith}
 use mathlib.Core.Bool.{Bool, true, false, not, cond}
 use lib.Dec.{T, leb, leb→le, nleb→lt, lit≤}
-use lib.Arith.{lt-one}
 use lib.Ieee.{size}
 use lib.Ieee.Digits.{size-lt}
 use Rattle.number.specs.Number.{digit, rootIn, wholeRoot}

@@ -1,8 +1,8 @@
 -- Worked values of the definitions, by bit patterns, computed.
 use mathlib.Core.Path.{_≡_, refl}
-use mathlib.Core.List.{List, [], _∷_, map}
+use mathlib.Core.List.{[], _∷_, map}
 use Prim.Native.Nat.{ℕ}
-use lib.Ieee.{Float, Format, binary32, binary64, ofBits, toBits}
+use lib.Ieee.{Format, binary32, binary64, ofBits, toBits}
 use Rattle.number.specs.Number.{narrow, root, abs, roundAway}
 
 narrowBits : ℕ → ℕ

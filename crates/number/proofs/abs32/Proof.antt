@@ -1,7 +1,7 @@
 -- `number::abs32` meets its contract. Assumes nothing.
-use mathlib.Core.Path.{_≡_, sym, subst}
+use mathlib.Core.Path.{sym, subst}
 use lib.Dec.{T}
-use lib.Ieee.{Float, binary32, fits}
+use lib.Ieee.{binary32, fits}
 use Rattle.laws.proofs.Numbers.{is-nan, no-nan}
 use Rattle.number.proofs.Cleared.{cleared, cleared-no-nan, of-nan}
 use Rattle.number.proofs.abs32.Statement.{statement}

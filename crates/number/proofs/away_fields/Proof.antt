@@ -1,9 +1,9 @@
 -- `number::away_fields` meets its contract: each answer is a law of `proofs/AwayBits.antt`. Assumes nothing.
-use mathlib.Core.Path.{_≡_, refl, sym, ap, ap₂, _∙_, subst}
+use mathlib.Core.Path.{_≡_, sym, ap₂, _∙_}
 use Prim.Native.Nat.{ℕ, _+_, _-_, _*_, _/_, _%_, _^_, _≤_, _<_}
 use native.Mathlib.Omega.{arith}
 use native.Mathlib.Nat.{one-mul, mod-eq-of-lt, lt-of-le-of-lt}
-use mathlib.Core.Bool.{Bool, cond}
+use mathlib.Core.Bool.{cond}
 use lib.Dec.{lit<}
 use lib.Pow.{pow-mono, shl-exact}
 use lib.Bits.{bitOr, or-shifted-r}
@@ -11,8 +11,6 @@ use borrow.Author.Needs.{needs}
 use Rattle.number.proofs.AwayBits.{Away, away-le, away-none, away-some}
 use Rattle.number.proofs.away_fields.Statement.{statement}
 use Rattle.number.proofs.away_fields.Tie as tie
-use Rattle.number.proofs.away_fields.Reads as reads
-use Rattle.number.proofs.away_fields.Lts as lts
 
 -- the shifts and the leading digit, as numbers
 half : (d : ℕ) → d ≤ 24 → 1 * 2 ^ (d - 1) % 2 ^ 64 ≡ 2 ^ (d - 1)

@@ -1,19 +1,15 @@
 -- `number::narrow` meets its contract. Assumes nothing.
-use mathlib.Core.Path.{_≡_, refl, sym, ap, _∙_, subst}
-use Prim.Native.Nat.{ℕ, _+_, _-_, _*_, _/_, _%_, _^_, _≤_, _<_}
-use mathlib.Core.Bool.{Bool, true, false, not, cond}
+use mathlib.Core.Path.{_≡_, sym, ap, _∙_, subst}
+use Prim.Native.Nat.{_*_, _/_, _%_, _^_}
 use lib.Dec.{T}
 use lib.Bits.{bitOr}
-use lib.Ieee.{Float, binary32, binary64, fits, isNan, ne, toBits}
+use lib.Ieee.{Float, binary32, binary64, fits, toBits}
 use Rattle.number.specs.Number.{narrow}
-use Rattle.number.proofs.Fields.{signOf, fieldOf, digitsOf, field-lt, digits-lt, read-fields, no-digits, joined, joined-lt, written, written-no-nan}
+use Rattle.number.proofs.Fields.{signOf, field-lt, digits-lt, read-fields, no-digits, joined, joined-lt, written, written-no-nan}
 use Rattle.laws.proofs.Numbers.{is-nan, no-nan}
 use Rattle.number.proofs.NarrowBits.{narrow-fits, narrow-no-nan, of-nan}
 use Rattle.number.proofs.narrow.Statement.{statement}
 use Rattle.number.proofs.narrow.Tie as tie
-use Rattle.number.proofs.narrow.Reads as reads
-use Rattle.number.proofs.narrow.Lts as lts
-use Rattle.number.proofs.narrow_fields.Reads as narrow-fields-reads
 
 -- what owning an `f64` tells: the format holds it
 held : (c : tie.Start) → T (fits binary64 (c .args .x))

@@ -1,8 +1,8 @@
 -- `number::narrow_fields` meets its contract: each answer is a law of `proofs/NarrowBits.antt`. Assumes nothing.
-use mathlib.Core.Path.{_≡_, refl, sym, ap, _∙_, subst}
-use Prim.Native.Nat.{ℕ, _+_, _-_, _*_, _/_, _%_, _^_, _≤_, _<_, min}
+use mathlib.Core.Path.{_≡_, sym, ap, _∙_, subst}
+use Prim.Native.Nat.{ℕ, _+_, _-_, _*_, _^_, _≤_, _<_, min}
 use native.Mathlib.Omega.{arith}
-use mathlib.Core.Bool.{Bool, cond}
+use mathlib.Core.Bool.{cond}
 use native.Mathlib.Nat.{lt-of-lt-of-le}
 use lib.Pow.{pow-mono}
 use lib.Bits.{bitOr, or-shifted-r}
@@ -11,9 +11,6 @@ use borrow.Author.Needs.{needs}
 use Rattle.number.proofs.NarrowBits.{tiny, low-bits, high-bits, closest-le}
 use Rattle.number.proofs.narrow_fields.Statement.{statement}
 use Rattle.number.proofs.narrow_fields.Tie as tie
-use Rattle.number.proofs.narrow_fields.Reads as reads
-use Rattle.number.proofs.narrow_fields.Lts as lts
-use Rattle.number.proofs.nearest_shr.Reads as nearest-shr-reads
 
 -- the leading digit set
 lead : (t : ℕ) → t < 2 ^ 52 → bitOr t (2 ^ 52) ≡ 2 ^ 52 + t

@@ -1,6 +1,6 @@
 -- `number::nearest_shr` meets its contract. Assumes nothing.
-use mathlib.Core.Path.{_≡_, refl, sym, ap, _∙_, subst}
-use Prim.Native.Nat.{ℕ, _+_, _-_, _*_, _/_, _%_, _^_, _≤_, _<_}
+use mathlib.Core.Path.{_≡_, sym, ap, _∙_, subst}
+use Prim.Native.Nat.{ℕ, _+_, _-_, _*_, _/_, _%_, _^_, _≤_}
 use native.Mathlib.Omega.{arith}
 use native.Mathlib.Nat.{one-mul}
 use lib.Bits.{bitAnd, and-mask, and-le-r}
@@ -10,8 +10,6 @@ use borrow.Author.Needs.{needs}
 use Rattle.number.proofs.Shift.{nearest-shr}
 use Rattle.number.proofs.nearest_shr.Statement.{statement}
 use Rattle.number.proofs.nearest_shr.Tie as tie
-use Rattle.number.proofs.nearest_shr.Reads as reads
-use Rattle.number.proofs.nearest_shr.Lts as lts
 
 half-is : (d : ℕ) → 1 ≤ d → d ≤ 62 → 1 * 2 ^ (d - 1) % 2 ^ 64 ≡ 2 ^ (d - 1)
 half-is d l u = shl-exact 1 (d - 1) 64 (lit< tt) (omega arith) ∙ one-mul (2 ^ (d - 1))

@@ -1,6 +1,6 @@
 -- `number::root_fields` meets its contract. Assumes nothing.
-use mathlib.Core.Path.{_≡_, refl, sym, ap, _∙_, subst}
-use Prim.Native.Nat.{ℕ, suc, _+_, _-_, _*_, _/_, _%_, _^_, _≤_, _<_}
+use mathlib.Core.Path.{_≡_, sym, ap, _∙_}
+use Prim.Native.Nat.{ℕ, suc, _+_, _-_, _*_, _%_, _^_, _≤_, _<_}
 use native.Mathlib.Omega.{arith}
 use native.Mathlib.Nat.{le-trans, le-of-eq, lt-of-le-of-lt, lt-of-lt-of-le, mod-eq-of-lt, mul-le-mul-right, one-mul}
 use mathlib.Core.Bool.{false}
@@ -8,16 +8,13 @@ use lib.Dec.{lit<}
 use lib.Pow.{pow-add, pow-mono, shl-lt, shl-exact}
 use lib.Bits.{bitOr, or-shifted-r}
 use lib.Count.{leadingZeros, leading-top}
-use lib.Ieee.{Format, ofFields, toBits}
+use lib.Ieee.{ofFields, toBits}
 use Rattle.number.specs.Number.{root}
 use Rattle.number.proofs.Pack.{pow-lt-back, twice-hid}
 use Rattle.number.proofs.RootBits.{Answer, low-at, high-at}
 use borrow.Author.Needs.{needs}
 use Rattle.number.proofs.root_fields.Statement.{statement}
 use Rattle.number.proofs.root_fields.Tie as tie
-use Rattle.number.proofs.root_fields.Reads as reads
-use Rattle.number.proofs.root_fields.Lts as lts
-use Rattle.number.proofs.root_of.Reads as root-of-reads
 
 -- the leading digit of t, brought to the place of p digits
 record Moved (t p L : ℕ) : Type 0 where

@@ -1,8 +1,8 @@
 -- `number::root_of` meets its contract. Assumes nothing.
-use mathlib.Core.Path.{_≡_, refl, sym, ap, _∙_, subst}
-use Prim.Native.Nat.{ℕ, suc, _+_, _-_, _*_, _/_, _%_, _^_, _≤_, _<_}
+use mathlib.Core.Path.{_≡_, sym, ap, _∙_, subst}
+use Prim.Native.Nat.{ℕ, _+_, _-_, _*_, _/_, _%_, _^_, _≤_, _<_}
 use native.Mathlib.Omega.{arith}
-use native.Mathlib.Nat.{lt-of-le-of-lt, lt-of-lt-of-le, mod-eq-of-lt}
+use native.Mathlib.Nat.{lt-of-lt-of-le, mod-eq-of-lt}
 use lib.Pow.{pow-mono, shl-lt, shl-exact}
 use lib.Bits.{bitAnd, and-mask, and-le-r}
 use borrow.Author.Needs.{needs}
@@ -10,9 +10,6 @@ use Rattle.number.specs.Number.{wholeRoot}
 use Rattle.number.proofs.RootBits.{Under, under-lt, under-root-lt}
 use Rattle.number.proofs.root_of.Statement.{statement}
 use Rattle.number.proofs.root_of.Tie as tie
-use Rattle.number.proofs.root_of.Reads as reads
-use Rattle.number.proofs.root_of.Lts as lts
-use Rattle.number.proofs.root_digits.Reads as root-digits-reads
 
 cap : (p : ℕ) → p ≤ 53 → 2 ^ (p + 1) ≤ 2 ^ 54
 cap p h = pow-mono {i = p + 1} {j = 54} (omega arith)

@@ -1,6 +1,6 @@
 -- `number::round32` meets its contract. Assumes nothing.
-use mathlib.Core.Path.{_≡_, refl, sym, ap, _∙_, subst}
-use Prim.Native.Nat.{ℕ, _+_, _-_, _*_, _/_, _%_, _^_, _≤_, _<_}
+use mathlib.Core.Path.{_≡_, sym, ap, _∙_, subst}
+use Prim.Native.Nat.{_+_, _*_, _/_, _%_, _^_}
 use native.Mathlib.Nat.{lt-of-lt-of-le}
 use mathlib.Core.Bool.{cond}
 use lib.Dec.{T, lit≤}
@@ -13,9 +13,6 @@ use Rattle.laws.proofs.Numbers.{is-nan, no-nan}
 use Rattle.number.proofs.AwayBits.{away-fits, away-no-nan, away-of-nan, away-whole}
 use Rattle.number.proofs.round32.Statement.{statement}
 use Rattle.number.proofs.round32.Tie as tie
-use Rattle.number.proofs.round32.Reads as reads
-use Rattle.number.proofs.round32.Lts as lts
-use Rattle.number.proofs.away_fields.Reads as away-fields-reads
 
 -- what owning an `f32` tells: the format holds it
 held : (c : tie.Start) → T (fits binary32 (c .args .x))

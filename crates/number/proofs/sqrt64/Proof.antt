@@ -1,18 +1,14 @@
 -- `number::sqrt64` meets its contract: each answer is a case of `proofs/RootCases.antt`. Assumes nothing.
-use mathlib.Core.Path.{_≡_, refl, sym, ap, _∙_, subst}
-use Prim.Native.Nat.{ℕ, suc, _+_, _-_, _*_, _/_, _%_, _^_, _≤_, _<_}
+use mathlib.Core.Path.{_≡_, refl, sym, _∙_, subst}
 use native.Mathlib.Omega.{arith}
 use lib.Dec.{T, lit≤}
-use lib.Ieee.{Float, binary64, fits, toBits}
+use lib.Ieee.{binary64, fits, toBits}
 use Rattle.number.specs.Number.{root}
-use Rattle.number.proofs.Fields.{fieldOf, digitsOf, field-lt, digits-lt, written, written-no-nan}
+use Rattle.number.proofs.Fields.{field-lt, digits-lt, written, written-no-nan}
 use Rattle.laws.proofs.Numbers.{is-nan, no-nan}
 use Rattle.number.proofs.RootCases.{zero-over-zero, root-nan, zero-case, negative-case, inf-case, rest-case, root-fits, root-no-nan}
 use Rattle.number.proofs.sqrt64.Statement.{statement}
 use Rattle.number.proofs.sqrt64.Tie as tie
-use Rattle.number.proofs.sqrt64.Reads as reads
-use Rattle.number.proofs.sqrt64.Lts as lts
-use Rattle.number.proofs.root_fields.Reads as root-fields-reads
 
 -- what owning an `f64` tells: the format holds it
 held : (c : tie.Start) → T (fits binary64 (c .args .x))
