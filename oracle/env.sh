@@ -1,8 +1,13 @@
-# Sourced by the other scripts, from the folder of this file: how to build for x86-64 here, and how to run what was built.
-# On x86-64 that is cargo as it stands. Elsewhere it is Debian's cargo, rustc and cross linker, with the x86-64 library of the same rustc
-# unpacked in cross/, and an emulator; a time measured under an emulator says nothing.
+# Sourced by the other scripts, from the folder of this file: how to build here, and how to run what was built.
+# On x86-64 that is cargo as it stands. Elsewhere there are two ways.
+# For comparing, x86-64 again: Debian's cargo, rustc and cross linker, the x86-64 library of the same rustc unpacked in cross/, and an emulator.
+# For measuring (here=yes), this machine: cargo as it stands, over the library of here.sh, since a time under an emulator says nothing.
 native=yes
-if [ "$(uname -m)" != x86_64 ]; then
+if [ -n "${here:-}" ]; then
+  export TILLJINGLE_LIB=$PWD/here CARGO_TARGET_DIR=$PWD/target/here
+  CARGO_BUILD_TARGET=$(rustc -vV | sed -n "s/^host: //p")
+  export CARGO_BUILD_TARGET
+elif [ "$(uname -m)" != x86_64 ]; then
   native=
   export PATH="/usr/bin:$PATH" RUSTC=/usr/bin/rustc
   export CARGO_TARGET_X86_64_UNKNOWN_LINUX_GNU_LINKER=x86_64-linux-gnu-gcc

@@ -46,5 +46,5 @@ cat ../docs/src/src--src--signal--signal.rs.txt src/tail.rs > gen/signal.new
 cmp -s gen/signal.new gen/signal.rs || cp gen/signal.new gen/signal.rs
 rm gen/signal.new
 
-(cd .. && rt staticlib tilljingle)
+if [ -n "${here:-}" ]; then ./here.sh; else (cd .. && rt staticlib tilljingle); fi
 cargo build --release --offline
