@@ -1,0 +1,2 @@
+-- What the contracts of `samples` cite. Assumes nothing.
+pub mod Samples

@@ -1,0 +1,2 @@
+-- What the contracts of the exports cite: an answer as it crosses the boundary. Assumes nothing.
+pub mod Crossing
