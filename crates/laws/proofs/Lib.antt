@@ -10,3 +10,4 @@ pub mod Zero
 pub mod Turn
 pub mod Numbers
 pub mod Filling
+pub mod Tested

@@ -1,0 +1,4 @@
+-- What the contracts cite. Assumes nothing.
+pub mod Table
+pub mod Wave
+pub mod Turn
