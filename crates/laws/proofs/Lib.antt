@@ -11,3 +11,4 @@ pub mod Turn
 pub mod Numbers
 pub mod Filling
 pub mod Tested
+pub mod Stores

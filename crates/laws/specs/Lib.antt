@@ -3,3 +3,4 @@ pub mod Whole
 pub mod Walks
 pub mod Samples
 pub mod Filled
+pub mod Front
