@@ -1,0 +1,2 @@
+-- Laws of the generator's definitions. Assumes nothing.
+pub mod Kept

@@ -1,0 +1,3 @@
+-- What the generator's contracts cite. Assumes nothing.
+pub mod Wave
+pub mod Sample

@@ -1,0 +1,103 @@
+-- What the generator puts at each place. 01, item 8 only names the waves, so the Rust decides: its operations in its order, each rounded to an f32.
+-- Definitions only.
+use Prim.Native.Nat.{ℕ}
+use mathlib.Core.Bool.{false, cond}
+use mathlib.Core.List.{List}
+use lib.IntN.{pos, negsuc}
+use lib.ListN.{length}
+use lib.Ieee.{Float, fin, binary32, add, sub, mul, div, rem, lt, le, ofInt}
+use Rattle.answers.specs.Numbers.{tooLong}
+use Rattle.answers.specs.Written.{Written, written}
+use Rattle.answers.specs.declared.Outcome.the-variants.{Done, TooLong}
+use Rattle.laws.specs.Filled.{filled}
+use Rattle.generator.specs.declared.Wave.{Wave}
+use Rattle.generator.specs.declared.Wave.the-variants.{DC, PWM, Triangular, Sawtooth}
+use Rattle.generator.specs.declared.Shape.{Shape}
+
+abbrev pub shapeOf : Wave → Float → Float → Float → Float → Shape
+shapeOf wave amplitude phase frequency duty = record { wave = wave; amplitude = amplitude; phase = phase; frequency = frequency; «duty_cycle» = duty }
+
+-- ---- the Rust's constants, m * 2 ^ e
+abbrev pub zero : Float
+zero = fin false 0 (pos 0)
+
+abbrev pub half : Float
+half = fin false 1 (negsuc 0)
+
+abbrev pub one : Float
+one = fin false 1 (pos 0)
+
+abbrev pub two : Float
+two = fin false 1 (pos 1)
+
+abbrev pub three : Float
+three = fin false 3 (pos 0)
+
+abbrev pub four : Float
+four = fin false 1 (pos 2)
+
+-- 180
+abbrev pub half-turn : Float
+half-turn = fin false 45 (pos 2)
+
+-- the f32 nearest to pi, 13176795 / 2 ^ 22
+abbrev pub pi : Float
+pi = fin false 13176795 (negsuc 21)
+
+-- a count as an f32
+abbrev pub number : ℕ → Float
+number n = ofInt binary32 (pos n)
+
+-- ---- PWM
+
+-- how many samples a period has: all n where the frequency is at least n, and n / frequency else
+unfoldable pub samplesPerPeriod : Float → Float → Float
+samplesPerPeriod frequency n = cond (le n frequency) n (div binary32 n frequency)
+
+-- the amplitude in the part of a period that is below the duty cycle, and 0 elsewhere
+unfoldable pub pwmAt : Shape → Float → Float → Float
+pwmAt s n i =
+    let period = samplesPerPeriod (s .frequency) n in
+    cond (lt (div binary32 (rem binary32 i period) period) (s .«duty_cycle»)) (s .amplitude) zero
+
+-- ---- the two ramps
+
+-- a period in seconds
+unfoldable pub period : Shape → Float
+period s = div binary32 one (s .frequency)
+
+-- the phase in radians, in seconds
+unfoldable pub shift : Shape → Float
+shift s = div binary32 (div binary32 (mul binary32 (s .phase) pi) half-turn) (mul binary32 (mul binary32 two pi) (s .frequency))
+
+-- where in its period place i of n lies, in seconds: the samples are one second
+unfoldable pub tMod : Shape → Float → Float → Float
+tMod s n i = rem binary32 (add binary32 (div binary32 i n) (shift s)) (period s)
+
+-- up from minus the amplitude in the first half of a period, and down again in the second
+unfoldable pub triangularAt : Shape → Float → Float → Float
+triangularAt s n i =
+    let normalized = div binary32 (tMod s n i) (period s) in
+    cond (lt normalized half)
+    (mul binary32 (s .amplitude) (sub binary32 (mul binary32 four normalized) one))
+    (mul binary32 (s .amplitude) (sub binary32 three (mul binary32 four normalized)))
+
+-- up from minus the amplitude through the whole period
+unfoldable pub sawtoothAt : Shape → Float → Float → Float
+sawtoothAt s n i = mul binary32 (s .amplitude) (sub binary32 (div binary32 (mul binary32 two (tMod s n i)) (period s)) one)
+
+-- ---- all waves
+
+abbrev pub ofWave : Wave → Shape → Float → Float → Float
+ofWave DC s n i = s .amplitude
+ofWave PWM s n i = pwmAt s n i
+ofWave Triangular s n i = triangularAt s n i
+ofWave Sawtooth s n i = sawtoothAt s n i
+
+-- the sample at place i of n
+unfoldable pub sampleAt : Shape → ℕ → ℕ → Float
+sampleAt s n i = ofWave (s .wave) s (number n) (number i)
+
+-- 01, row 3: "a slice of samples that is filled by the generator has more than 65,536 places", and "Nothing but 0 writes"; else every place has its sample
+unfoldable pub generated : Shape → List Float → Written Float
+generated s xs = cond (tooLong (length xs)) (written TooLong xs) (written Done (filled (sampleAt s (length xs)) (length xs) xs))
