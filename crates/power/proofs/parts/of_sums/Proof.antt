@@ -1,0 +1,44 @@
+-- `power::parts::of_sums` meets its contract. Assumes nothing.
+use native.Mathlib.Omega.{arith}
+use Prim.Native.Nat.{_^_}
+use lib.Dec.{le→leb}
+use lib.Ieee.{inFloat}
+use Rattle.power.specs.Power.{recordOf, activeOf, apparentOf, meanOf}
+use borrow.Author.Needs.{needs}
+use Rattle.power.proofs.parts.of_sums.Statement.{statement}
+use Rattle.power.proofs.parts.of_sums.Tie as tie
+
+int-to-float-n : tie.Need-int-to-float-n
+unfolding inFloat
+int-to-float-n c = le→leb (c .before .args .t .count) (2 ^ 53) (omega arith)
+
+narrow-requires : tie.Need-narrow-requires
+narrow-requires c κs = search needs
+
+narrowed-root-requires : tie.Need-narrowed-root-requires
+narrowed-root-requires c κs = search needs
+
+narrowed-root-requires-2 : tie.Need-narrowed-root-requires-2
+narrowed-root-requires-2 c κs = search needs
+
+reactive-requires : tie.Need-reactive-requires
+reactive-requires c κs = search needs
+
+factor-requires : tie.Need-factor-requires
+factor-requires c κs = search needs
+
+returns : tie.Need-returns
+unfolding recordOf activeOf apparentOf meanOf
+returns c = cc
+
+pub of-sums-spec : {M : Type 1} → statement M
+of-sums-spec =
+    tie.close
+    (tie.spec
+    int-to-float-n
+    narrow-requires
+    narrowed-root-requires
+    narrowed-root-requires-2
+    reactive-requires
+    factor-requires
+    returns)

@@ -1,0 +1,31 @@
+-- `power::parts::reactive` meets its contract. Assumes nothing.
+use Rattle.power.specs.Power.{reactiveOf}
+use borrow.Author.Needs.{needs}
+use Rattle.power.proofs.parts.reactive.Statement.{statement}
+use Rattle.power.proofs.parts.reactive.Tie as tie
+
+f32-to-f64-with-nan-requires : tie.Need-f32-to-f64-with-nan-requires
+f32-to-f64-with-nan-requires c κs = search needs
+
+f32-to-f64-with-nan-requires-2 : tie.Need-f32-to-f64-with-nan-requires-2
+f32-to-f64-with-nan-requires-2 c κs = search needs
+
+above-zero-requires : tie.Need-above-zero-requires
+above-zero-requires c κs = search needs
+
+narrowed-root-requires : tie.Need-narrowed-root-requires
+narrowed-root-requires c κs = search needs
+
+returns : tie.Need-returns
+unfolding reactiveOf
+returns c = cc
+
+pub reactive-spec : {M : Type 1} → statement M
+reactive-spec =
+    tie.close
+    (tie.spec
+    f32-to-f64-with-nan-requires
+    f32-to-f64-with-nan-requires-2
+    above-zero-requires
+    narrowed-root-requires
+    returns)

@@ -1,0 +1,83 @@
+-- What `compute_power` answers (01, item 4), operation by operation. Each operation on f32 (binary32) or f64 (binary64) is IEEE 754's: the exact result,
+-- rounded once to the nearest, ties to even (`lib.Ieee`). An f32 is an f64 as it stands. Definitions only.
+use Prim.Native.Nat.{ℕ, zero, suc}
+use mathlib.Core.Bool.{cond}
+use mathlib.Core.List.{List}
+use lib.Dec.{eqb}
+use lib.ListN.{length, getD}
+use lib.IntN.{pos}
+use lib.Ieee.{Float, nan, binary32, binary64, add, sub, mul, div, lt, ofInt, ofBits}
+use Rattle.number.specs.Number.{narrow, root}
+use Rattle.answers.specs.declared.Outcome.{Outcome}
+use Rattle.answers.specs.declared.Outcome.the-variants.{Done, LengthsDiffer, TooLong}
+use Rattle.answers.specs.Numbers.{tooLong}
+use Rattle.power.specs.declared.Power.{Power}
+use Rattle.power.specs.declared.PowerAnswer.{PowerAnswer}
+use Rattle.power.specs.declared.parts.Sums.{Sums}
+
+-- ---- the sums
+
+-- 01, "Sums are f64, in index order from 0": x₀ y₀ + x₁ y₁ + .. over the first k places
+unfoldable pub sumTo : List Float → List Float → ℕ → Float
+sumTo x y zero = ofBits binary64 0
+sumTo x y (suc k) = add binary64 (sumTo x y k) (mul binary64 (getD x k nan) (getD y k nan))
+
+-- the three sums of a capture
+abbrev pub sumsTo : List Float → List Float → ℕ → Sums
+sumsTo v i k = record { vi = sumTo v i k; vv = sumTo v v k; ii = sumTo i i k; count = k }
+
+-- ---- the record
+
+-- a sum over n places, divided by n
+unfoldable pub meanOf : Float → ℕ → Float
+meanOf t n = div binary64 t (ofInt binary64 (pos n))
+
+-- p, active power: the mean of the products, narrowed to f32
+unfoldable pub activeOf : Sums → Float
+activeOf t = narrow (meanOf (t .vi) (t .count))
+
+-- 01, "`compute_power` takes the f64 root and then narrows"
+unfoldable pub narrowedRoot : Float → Float
+narrowedRoot x = narrow (root binary64 x)
+
+-- s, apparent power: the f32 product of the root mean squares of voltage and current
+unfoldable pub apparentOf : Sums → Float
+apparentOf t = mul binary32 (narrowedRoot (meanOf (t .vv) (t .count))) (narrowedRoot (meanOf (t .ii) (t .count)))
+
+-- pf, the power factor: p / s in f32, and 0 where s is not above the f32 nearest to 1e-12, at a NaN too
+unfoldable pub factorOf : Float → Float → Float
+factorOf p s = cond (lt (ofBits binary32 0x2B8CBCCC) s) (div binary32 p s) (ofBits binary32 0)
+
+-- x where it is above 0, and 0 elsewhere, at a NaN too
+unfoldable pub aboveZero : Float → Float
+aboveZero x = cond (lt (ofBits binary64 0) x) x (ofBits binary64 0)
+
+-- 01, "q, the reactive power, is the root of s² - p²", worked out in f64
+unfoldable pub reactiveOf : Float → Float → Float
+reactiveOf p s = narrowedRoot (aboveZero (sub binary64 (mul binary64 s s) (mul binary64 p p)))
+
+abbrev pub recordWith : Float → Float → Power
+recordWith p s = record { p = p; q = reactiveOf p s; s = s; pf = factorOf p s }
+
+unfoldable pub recordOf : Sums → Power
+recordOf t = recordWith (activeOf t) (apparentOf t)
+
+-- ---- the answer
+
+-- 01, "What a refusal returns is zero throughout"
+abbrev pub zeroPower : Power
+zeroPower = record { p = ofBits binary32 0; q = ofBits binary32 0; s = ofBits binary32 0; pf = ofBits binary32 0 }
+
+abbrev pub answered : Outcome → Power → PowerAnswer
+answered o r = record { outcome = o; power = r }
+
+-- 01, "An empty pair of slices answers the all-zero record"
+unfoldable pub powerOf : List Float → List Float → Power
+powerOf v i = cond (eqb (length v) 0) zeroPower (recordOf (sumsTo v i (length v)))
+
+-- 01, the table of numbers, and "Where several hold: 3, 1": a slice too long, then lengths that differ
+unfoldable pub answerOf : List Float → List Float → PowerAnswer
+answerOf v i =
+    cond (tooLong (length v)) (answered TooLong zeroPower)
+    (cond (tooLong (length i)) (answered TooLong zeroPower)
+    (cond (eqb (length v) (length i)) (answered Done (powerOf v i)) (answered LengthsDiffer zeroPower)))

@@ -1,0 +1,57 @@
+// The record of a capture from its sums.
+ghost use mathlib.Core.Path.{_≡_};
+ghost use Prim.Native.Nat.{_≤_};
+ghost use Rattle.power.specs.Power.{narrowedRoot, factorOf, aboveZero, reactiveOf, recordOf};
+ghost use Rattle.answers.specs.Numbers.{longest};
+use crate::Power;
+
+// The sums over `count` pairs: of the products, of the voltage's squares and of the current's.
+pub struct Sums {
+    pub vi: f64,
+    pub vv: f64,
+    pub ii: f64,
+    pub count: usize,
+}
+
+// The root, narrowed after it.
+fn narrowed_root(x: f64) -> f32
+    ensures { λ r. ⌜ r ≡ narrowedRoot x ⌝ }
+{
+    number::narrow(number::sqrt64(x))
+}
+
+// The power factor; 0 where s is at most 1e-12, or is not a number.
+fn factor(p: f32, s: f32) -> f32
+    ensures { λ r. ⌜ r ≡ factorOf p s ⌝ }
+{
+    if s > 1e-12 { p / s } else { 0.0 }
+}
+
+// x where it is above 0, and 0 elsewhere, at a NaN too.
+fn above_zero(x: f64) -> f64
+    ensures { λ r. ⌜ r ≡ aboveZero x ⌝ }
+{
+    if x > 0.0 { x } else { 0.0 }
+}
+
+// The root of s² - p².
+fn reactive(p: f32, s: f32) -> f32
+    ensures { λ r. ⌜ r ≡ reactiveOf p s ⌝ }
+{
+    let p64 = std::num::f32_to_f64_with_nan(p);
+    let s64 = std::num::f32_to_f64_with_nan(s);
+    narrowed_root(above_zero(s64 * s64 - p64 * p64))
+}
+
+// The record of a capture with these sums.
+pub fn of_sums(t: Sums) -> Power
+    requires { ⌜ t .count ≤ longest ⌝ }
+    ensures { λ r. ⌜ r ≡ recordOf t ⌝ }
+{
+    let n = t.count as f64;
+    let p = number::narrow(t.vi / n);
+    let s = narrowed_root(t.vv / n) * narrowed_root(t.ii / n);
+    let q = reactive(p, s);
+    let pf = factor(p, s);
+    Power { p, q, s, pf }
+}
