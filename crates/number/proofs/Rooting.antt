@@ -25,7 +25,7 @@ use Rattle.laws.proofs.Size.{Signed}
 use Rattle.laws.proofs.Zero.{Null}
 
 -- ---- In whole numbers. r is the whole part of the root of n, and z, at most h from the root with its half, rounds it; h is one part in P at most.
-square : (a b : ℕ) → a * b * (a * b) ≡ a * a * (b * b)
+pub square : (a b : ℕ) → a * b * (a * b) ≡ a * a * (b * b)
 square a b = mul-mul-mul-comm a b a b
 
 squares-le : {a b : ℕ} → a ≤ b → a * a ≤ b * b
@@ -33,7 +33,7 @@ squares-le l = mul-le-mul l l
 
 module _ (n r z h P : ℕ) (is : IsRoot n r) (near : gap (2 * z) (2 * r + sticky n r) ≤ 2 * h) (fine : P * h ≤ r) where
   -- z and n lie on the same side of the middle between two roundings, since that is a whole number
-  from-above : z ≤ r + h
+  pub from-above : z ≤ r + h
   from-above = go (eqb (r * r) n) near
     where
       go : (b : Bool) → gap (2 * z) (2 * r + cond b 0 1) ≤ 2 * h → z ≤ r + h
@@ -47,7 +47,7 @@ module _ (n r z h P : ℕ) (is : IsRoot n r) (near : gap (2 * z) (2 * r + sticky
       go true l = omega arith
       go false l = omega arith
 
-  covered : n ≤ (z + h) * (z + h)
+  pub covered : n ≤ (z + h) * (z + h)
   covered = go (eqb (r * r) n) (eqb→eq (r * r) n) near
     where
       go : (b : Bool) → (T b → r * r ≡ n) → gap (2 * z) (2 * r + cond b 0 1) ≤ 2 * h → n ≤ (z + h) * (z + h)
@@ -103,23 +103,23 @@ lt-of-squares : (a b : ℕ) → a * a < b * b → a < b
 lt-of-squares a b h = lt-of-not-le (λ (g : b ≤ a). not-le-of-lt h (mul-le-mul g g))
 
 module _ (f : Format) (a : ℕ) (A : 0 < a) where
-  abbrev n : ℕ
+  abbrev pub n : ℕ
   n = a * 2 ^ suc (suc (low f))
 
-  abbrev r : ℕ
+  abbrev pub r : ℕ
   r = wholeRoot n
 
   -- the root in units of the smallest value, and half of what its last digit is worth there
-  abbrev g : ℕ
+  abbrev pub g : ℕ
   g = grid f (Num n) (2 ^ suc (suc (low f)))
 
-  abbrev h : ℕ
+  abbrev pub h : ℕ
   h = 2 ^ drop (prec f) (Num n * 2 ^ low f) (2 ^ suc (suc (low f)))
 
-  abbrev P : ℕ
+  abbrev pub P : ℕ
   P = 2 ^ prec f
 
-  four : 2 ^ suc (suc (low f)) ≡ 4 * 2 ^ low f
+  pub four : 2 ^ suc (suc (low f)) ≡ 4 * 2 ^ low f
   four = pow-suc 2 (suc (low f)) ∙ ap (λ (x : ℕ). x * 2) (pow-suc 2 (low f)) ∙ mul-comm (2 ^ low f * 2) 2 ∙ quarter (2 ^ low f)
     where
       quarter : (x : ℕ) → 2 * (x * 2) ≡ 4 * x
@@ -138,7 +138,7 @@ module _ (f : Format) (a : ℕ) (A : 0 < a) where
       back : (p : ℕ) → 2 ≤ p → p ≡ suc (p - 1)
       back p l = omega arith
 
-  normal : prec f ≤ size (Num n * 2 ^ low f / 2 ^ suc (suc (low f)))
+  pub normal : prec f ≤ size (Num n * 2 ^ low f / 2 ^ suc (suc (low f)))
   normal =
       normal-of-fraction f (Num n) (2 ^ suc (suc (low f))) (pow-pos (suc (suc (low f))))
       (le-trans (le-of-eq (ap (λ (x : ℕ). 2 ^ (prec f - 1) * x) four ∙ sym (mul-assoc (2 ^ (prec f - 1)) 4 (2 ^ low f))))
@@ -148,7 +148,7 @@ module _ (f : Format) (a : ℕ) (A : 0 < a) where
       enough q P r s e l = omega arith
 
   -- 2 g is the root in the units that the whole root counts
-  near : gap (2 * (2 * g)) (Num n) ≤ 2 * h
+  pub near : gap (2 * (2 * g)) (Num n) ≤ 2 * h
   near =
       let L = 2 ^ low f in
       let c = 2 ^ suc (suc (low f)) in
@@ -167,7 +167,7 @@ module _ (f : Format) (a : ℕ) (A : 0 < a) where
       halved : (g R h : ℕ) → gap (4 * g) R * 2 ≤ 4 * h → gap (2 * (2 * g)) R ≤ 2 * h
       halved g R h l = omega arith
 
-  fine : P * h ≤ r
+  pub fine : P * h ≤ r
   fine =
       let L = 2 ^ low f in
       let c = 2 ^ suc (suc (low f)) in
@@ -237,17 +237,17 @@ module _ (f : Format) (a : ℕ) (A : 0 < a) where
           lt-of-lt-of-le (mul-lt-mul-of-pos-right o (pow-pos (suc (suc (low f)))))
           (le-trans (le-of-eq (sym (pow-add 2 (low f + suc (emax f)) (suc (suc (low f)))))) (le-trans (pow-mono (reach f)) (le-of-eq (pow-add 2 (low f + suc (emax f)) (low f + suc (emax f))))))
 
-  root-units : (x : Float) → HasValue x false a (2 ^ low f) → a < overflow f → HasValue (root f x) false g (2 ^ low f)
+  pub root-units : (x : Float) → HasValue x false a (2 ^ low f) → a < overflow f → HasValue (root f x) false g (2 ^ low f)
   root-units x v o =
       subst (λ (y : Float). HasValue y false g (2 ^ low f)) (sym (root-value f x a A v)) (round-is-grid f false (Num n) (2 ^ suc (suc (low f))) (below o))
 
 -- ---- the value itself: a finite value of the format is so many of its smallest ones
-record Units (f : Format) (x : Float) (s : Bool) : Type 0 where
-  count : ℕ
-  is : HasValue x s count (2 ^ low f)
-  bound : count < overflow f
+pub record Units (f : Format) (x : Float) (s : Bool) : Type 0 where
+  pub count : ℕ
+  pub is : HasValue x s count (2 ^ low f)
+  pub bound : count < overflow f
 
-exponent : (i j : ℕ) → 2 ^ i ≤ 2 ^ j → i ≤ j
+pub exponent : (i j : ℕ) → 2 ^ i ≤ 2 ^ j → i ≤ j
 exponent i j l = le-of-suc-le-suc (lt-of-not-le (λ (g : suc j ≤ i). not-le-of-lt (pow-lt g) l))
 
 -- the fraction's denominator divides 2 ^ low
@@ -258,7 +258,7 @@ rest f (negsuc k) l = let h = exponent (suc k) (low f) l in (2 ^ (low f - suc k)
     back : (a b : ℕ) → b ≤ a → a - b + b ≡ a
     back a b h = omega arith
 
-units-of : (f : Format) (x : Float) (s : Bool) → T (fits f x) → Signed x s → 0 < num x → Units f x s
+pub units-of : (f : Format) (x : Float) (s : Bool) → T (fits f x) → Signed x s → 0 < num x → Units f x s
 unfolding fits
 units-of f nan s t h p = absurd h
 units-of f (inf u) s t h p = absurd h
