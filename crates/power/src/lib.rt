@@ -10,6 +10,8 @@ use parts::Sums;
 
 pub mod parts;
 
+// Laid out as C does, to cross its boundary as it is.
+#[repr(C)]
 pub struct Power {
     pub p: f32,
     pub q: f32,

@@ -1,2 +1,3 @@
 -- What the contracts of the exports cite: an answer as it crosses the boundary. Assumes nothing.
 pub mod Crossing
+pub mod PowerCrossing
