@@ -1,0 +1,8 @@
+-- The laws that the functions' proofs cite, and worked examples. Assumes nothing.
+pub mod Grid
+pub mod Angle
+pub mod Turns
+pub mod Ends
+pub mod Starred
+pub mod Examples
+pub mod Running
