@@ -1,0 +1,86 @@
+-- How near `compute_power` is to exact arithmetic, for every capture of 1 to 65,536 pairs of whole numbers of size at most 32,768: demand 3, sentence by sentence.
+-- A finite float x is the fraction `value x / den x`, and `num x / den x` in size. The sentences are multiplied out, so that only whole numbers are compared. Definitions only.
+use Prim.Native.Nat.{ℕ, zero, suc, _+_, _*_, _^_, _≤_, _<_}
+use mathlib.Core.Path.{_≡_}
+use mathlib.Core.List.{List, map}
+use lib.Dec.{T}
+use lib.ListN.{length, getD}
+use lib.IntN.{ℤ, pos, negsuc, natAbs, _+ℤ_, _-ℤ_, _*ℤ_}
+use lib.Ieee.{Float, nan, binary32, ofInt}
+use lib.Ieee.Scale.{finite}
+use lib.Ieee.Positive.{num, den}
+use Rattle.laws.specs.Whole.{value, Is}
+use Rattle.answers.specs.declared.Outcome.the-variants.{Done}
+use Rattle.answers.specs.Numbers.{longest}
+use Rattle.power.specs.declared.Power.{Power}
+use Rattle.power.specs.Power.{answered, powerOf, answerOf}
+
+-- ---- what is measured
+
+-- the samples of v are the whole numbers x 0, x 1, .., each of size at most 32,768
+pub record Capture (v : List Float) (x : ℕ → ℤ) : Type 0 where
+  pub are : (k : ℕ) → k < length v → Is (getD v k nan) (x k)
+  pub small : (k : ℕ) → k < length v → natAbs (x k) ≤ 32768
+
+-- codes as samples: each cast to an f32
+abbrev pub samplesOf : List ℤ → List Float
+samplesOf z = map (λ (a : ℤ). ofInt binary32 a) z
+
+abbrev pub codeAt : List ℤ → ℕ → ℤ
+codeAt z k = getD z k (pos 0)
+
+-- ---- exact arithmetic over the first n pairs
+
+-- the sum of the products, W
+unfoldable pub products : (ℕ → ℤ) → (ℕ → ℤ) → ℕ → ℤ
+products x y zero = pos 0
+products x y (suc n) = products x y n +ℤ x n *ℤ y n
+
+-- the sum of the squares: V of the voltage, I of the current
+unfoldable pub squares : (ℕ → ℤ) → ℕ → ℕ
+squares x zero = 0
+squares x (suc n) = squares x n + natAbs (x n) * natAbs (x n)
+
+-- ---- the sentences
+
+-- a and b are no further apart than t / 2 ^ k
+abbrev pub Within : ℤ → ℤ → ℕ → ℕ → Type 0
+Within a b t k = natAbs (a -ℤ b) * 2 ^ k ≤ t
+
+abbrev pub sq : ℕ → ℕ
+sq a = a * a
+
+pub data Sign : Type 0 where
+  minus none plus : Sign
+
+abbrev pub sign : ℤ → Sign
+sign (pos zero) = none
+sign (pos (suc a)) = plus
+sign (negsuc a) = minus
+
+-- of n pairs with the sums v, i (of squares) and w (of products)
+pub record Bounds (n v i : ℕ) (w : ℤ) (r : Power) : Type 0 where
+  -- no figure is an infinity or a NaN
+  pub numbers : T (finite (r .p)) × T (finite (r .q)) × T (finite (r .s)) × T (finite (r .pf))
+  -- n p is within |W| / 2^23 of W
+  pub active : Within (pos n *ℤ value (r .p)) (w *ℤ pos (den (r .p))) (natAbs w * den (r .p)) 23
+  -- n² s² is within V I / 2^21 of V I
+  pub apparent : Within (pos (sq n * sq (num (r .s)))) (pos (v * i * sq (den (r .s)))) (v * i * sq (den (r .s))) 21
+  -- n² q² is within V I / 2^20 of V I - W²
+  pub reactive : Within (pos (sq n * sq (num (r .q)))) (pos (v * i * sq (den (r .q))) -ℤ pos (sq (natAbs w) * sq (den (r .q)))) (v * i * sq (den (r .q))) 20
+  -- pf² V I is within W² / 2^20 of W²
+  pub factor : Within (pos (sq (num (r .pf)) * (v * i))) (pos (sq (natAbs w) * sq (den (r .pf)))) (sq (natAbs w) * sq (den (r .pf))) 20
+  -- pf has the sign of W, and is 0 exactly when W is; and it is at most 1 + 1 / 2^21 in size
+  pub bounded : (sign (value (r .pf)) ≡ sign w) × (num (r .pf) * 2 ^ 21 ≤ (2 ^ 21 + 1) * den (r .pf))
+
+-- ---- the claims
+
+-- demand 3: such a capture is measured, and within the bounds
+abbrev pub Accuracy : Type 0
+Accuracy =
+    (v i : List Float) (x y : ℕ → ℤ) → Capture v x → Capture i y → length v ≡ length i → 0 < length v → length v ≤ longest
+    → (answerOf v i ≡ answered Done (powerOf v i)) × Bounds (length v) (squares x (length v)) (squares y (length v)) (products x y (length v)) (powerOf v i)
+
+-- any codes of 16 bits are such a capture
+abbrev pub Codes : Type 0
+Codes = (z : List ℤ) → ((k : ℕ) → k < length z → natAbs (codeAt z k) ≤ 32768) → Capture (samplesOf z) (codeAt z)

@@ -1,0 +1,2 @@
+-- What is claimed of power's figures. Assumes nothing.
+pub mod Accuracy
