@@ -1,3 +1,4 @@
 -- What the contracts of every crate cite. Assumes nothing.
 pub mod Numbers
 pub mod Written
+pub mod Measured

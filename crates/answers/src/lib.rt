@@ -15,6 +15,18 @@ pub enum Outcome {
 // The longest slice of samples, codes or magnitudes that is read or filled, and the most pairs of a capture.
 pub const LONGEST: usize = 65536;
 
+// One measured number, and how the call ended.
+pub struct Measured {
+    pub outcome: Outcome,
+    pub value: f32,
+}
+
+// What a call that measures one number answers where there are more than LONGEST places: zero.
+pub const UNMEASURED: Measured = Measured {
+    outcome: Outcome::TooLong,
+    value: 0.0,
+};
+
 ghost use mathlib.Core.Path.{_≡_};
 ghost use Rattle.answers.specs.Numbers.{numberOf};
 
