@@ -4,3 +4,4 @@ pub mod Walks
 pub mod Samples
 pub mod Filled
 pub mod Front
+pub mod Literals
