@@ -1,0 +1,3 @@
+-- What the contracts of `timing` cite, and 01's examples of it. Assumes nothing.
+pub mod Timing
+pub mod Shown
