@@ -1,0 +1,2 @@
+-- Laws of the port's definitions. Assumes nothing.
+pub mod Fields
