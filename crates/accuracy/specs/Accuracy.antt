@@ -58,20 +58,38 @@ sign (pos zero) = none
 sign (pos (suc a)) = plus
 sign (negsuc a) = minus
 
--- of n pairs with the sums v, i (of squares) and w (of products)
+-- n p is within |W| / 2^k of W
+abbrev pub ActiveNear : ℕ → ℕ → ℤ → Float → Type 0
+ActiveNear k n w p = Within (pos n *ℤ value p) (w *ℤ pos (den p)) (natAbs w * den p) k
+
+-- n² s² is within V I / 2^k of V I
+abbrev pub ApparentNear : ℕ → ℕ → ℕ → ℕ → Float → Type 0
+ApparentNear k n v i s = Within (pos (sq n * sq (num s))) (pos (v * i * sq (den s))) (v * i * sq (den s)) k
+
+-- n² q² is within V I / 2^k of V I - W²
+abbrev pub ReactiveNear : ℕ → ℕ → ℕ → ℕ → ℤ → Float → Type 0
+ReactiveNear k n v i w q = Within (pos (sq n * sq (num q))) (pos (v * i * sq (den q)) -ℤ pos (sq (natAbs w) * sq (den q))) (v * i * sq (den q)) k
+
+-- pf² V I is within W² / 2^k of W²
+abbrev pub FactorNear : ℕ → ℕ → ℕ → ℤ → Float → Type 0
+FactorNear k v i w f = Within (pos (sq (num f) * (v * i))) (pos (sq (natAbs w) * sq (den f))) (sq (natAbs w) * sq (den f)) k
+
+-- pf has the sign of W, and so is 0 exactly when W is
+abbrev pub SignOf : ℤ → Float → Type 0
+SignOf w f = sign (value f) ≡ sign w
+
+-- pf is at most 1 + 1 / 2^k in size
+abbrev pub AtMost : ℕ → Float → Type 0
+AtMost k f = num f * 2 ^ k ≤ (2 ^ k + 1) * den f
+
+-- the record r of n pairs with the sums v and i of squares and w of products; and no figure is an infinity or a NaN
 pub record Bounds (n v i : ℕ) (w : ℤ) (r : Power) : Type 0 where
-  -- no figure is an infinity or a NaN
+  pub active : ActiveNear 23 n w (r .p)
+  pub apparent : ApparentNear 21 n v i (r .s)
+  pub reactive : ReactiveNear 20 n v i w (r .q)
+  pub factor : FactorNear 20 v i w (r .pf)
+  pub signed : SignOf w (r .pf) × AtMost 21 (r .pf)
   pub numbers : T (finite (r .p)) × T (finite (r .q)) × T (finite (r .s)) × T (finite (r .pf))
-  -- n p is within |W| / 2^23 of W
-  pub active : Within (pos n *ℤ value (r .p)) (w *ℤ pos (den (r .p))) (natAbs w * den (r .p)) 23
-  -- n² s² is within V I / 2^21 of V I
-  pub apparent : Within (pos (sq n * sq (num (r .s)))) (pos (v * i * sq (den (r .s)))) (v * i * sq (den (r .s))) 21
-  -- n² q² is within V I / 2^20 of V I - W²
-  pub reactive : Within (pos (sq n * sq (num (r .q)))) (pos (v * i * sq (den (r .q))) -ℤ pos (sq (natAbs w) * sq (den (r .q)))) (v * i * sq (den (r .q))) 20
-  -- pf² V I is within W² / 2^20 of W²
-  pub factor : Within (pos (sq (num (r .pf)) * (v * i))) (pos (sq (natAbs w) * sq (den (r .pf)))) (sq (natAbs w) * sq (den (r .pf))) 20
-  -- pf has the sign of W, and is 0 exactly when W is; and it is at most 1 + 1 / 2^21 in size
-  pub bounded : (sign (value (r .pf)) ≡ sign w) × (num (r .pf) * 2 ^ 21 ≤ (2 ^ 21 + 1) * den (r .pf))
 
 -- ---- the claims
 
