@@ -1,3 +1,4 @@
 -- What the contracts of the exports cite: an answer as it crosses the boundary. Assumes nothing.
 pub mod Crossing
 pub mod PowerCrossing
+pub mod Scratch

@@ -4,3 +4,4 @@ pub mod number_c;
 pub mod power_c;
 pub mod samples_c;
 pub mod timing_c;
+pub mod spectrum_c;
