@@ -1,15 +1,15 @@
 -- What the generator puts at each place. 01, item 8 only names the waves, so the Rust decides: its operations in its order, each rounded to an f32.
 -- Definitions only.
 use Prim.Native.Nat.{ℕ}
-use mathlib.Core.Bool.{false, cond}
+use mathlib.Core.Bool.{cond}
 use mathlib.Core.List.{List}
-use lib.IntN.{pos, negsuc}
 use lib.ListN.{length}
-use lib.Ieee.{Float, fin, binary32, add, sub, mul, div, rem, lt, le, ofInt}
+use lib.Ieee.{Float, binary32, add, sub, mul, div, rem, lt, le, ofBits}
 use Rattle.answers.specs.Numbers.{tooLong}
 use Rattle.answers.specs.Written.{Written, written}
 use Rattle.answers.specs.declared.Outcome.the-variants.{Done, TooLong}
 use Rattle.laws.specs.Filled.{filled}
+use Rattle.laws.specs.Literals.{zero32, one32, count32}
 use Rattle.generator.specs.declared.Wave.{Wave}
 use Rattle.generator.specs.declared.Wave.the-variants.{DC, PWM, Triangular, Sawtooth}
 use Rattle.generator.specs.declared.Shape.{Shape}
@@ -17,36 +17,26 @@ use Rattle.generator.specs.declared.Shape.{Shape}
 abbrev pub shapeOf : Wave → Float → Float → Float → Float → Shape
 shapeOf wave amplitude phase frequency duty = record { wave = wave; amplitude = amplitude; phase = phase; frequency = frequency; «duty_cycle» = duty }
 
--- ---- the Rust's constants, m * 2 ^ e
-abbrev pub zero : Float
-zero = fin false 0 (pos 0)
-
+-- ---- the Rust's constants, as their bits
 abbrev pub half : Float
-half = fin false 1 (negsuc 0)
-
-abbrev pub one : Float
-one = fin false 1 (pos 0)
+half = ofBits binary32 0x3F000000
 
 abbrev pub two : Float
-two = fin false 1 (pos 1)
+two = ofBits binary32 0x40000000
 
 abbrev pub three : Float
-three = fin false 3 (pos 0)
+three = ofBits binary32 0x40400000
 
 abbrev pub four : Float
-four = fin false 1 (pos 2)
+four = ofBits binary32 0x40800000
 
 -- 180
 abbrev pub half-turn : Float
-half-turn = fin false 45 (pos 2)
+half-turn = ofBits binary32 0x43340000
 
 -- the f32 nearest to pi, 13176795 / 2 ^ 22
 abbrev pub pi : Float
-pi = fin false 13176795 (negsuc 21)
-
--- a count as an f32
-abbrev pub number : ℕ → Float
-number n = ofInt binary32 (pos n)
+pi = ofBits binary32 0x40490FDB
 
 -- ---- PWM
 
@@ -58,13 +48,13 @@ samplesPerPeriod frequency n = cond (le n frequency) n (div binary32 n frequency
 unfoldable pub pwmAt : Shape → Float → Float → Float
 pwmAt s n i =
     let period = samplesPerPeriod (s .frequency) n in
-    cond (lt (div binary32 (rem binary32 i period) period) (s .«duty_cycle»)) (s .amplitude) zero
+    cond (lt (div binary32 (rem binary32 i period) period) (s .«duty_cycle»)) (s .amplitude) zero32
 
 -- ---- the two ramps
 
 -- a period in seconds
 unfoldable pub period : Shape → Float
-period s = div binary32 one (s .frequency)
+period s = div binary32 one32 (s .frequency)
 
 -- the phase in radians, in seconds
 unfoldable pub shift : Shape → Float
@@ -79,12 +69,12 @@ unfoldable pub triangularAt : Shape → Float → Float → Float
 triangularAt s n i =
     let normalized = div binary32 (tMod s n i) (period s) in
     cond (lt normalized half)
-    (mul binary32 (s .amplitude) (sub binary32 (mul binary32 four normalized) one))
+    (mul binary32 (s .amplitude) (sub binary32 (mul binary32 four normalized) one32))
     (mul binary32 (s .amplitude) (sub binary32 three (mul binary32 four normalized)))
 
 -- up from minus the amplitude through the whole period
 unfoldable pub sawtoothAt : Shape → Float → Float → Float
-sawtoothAt s n i = mul binary32 (s .amplitude) (sub binary32 (div binary32 (mul binary32 two (tMod s n i)) (period s)) one)
+sawtoothAt s n i = mul binary32 (s .amplitude) (sub binary32 (div binary32 (mul binary32 two (tMod s n i)) (period s)) one32)
 
 -- ---- all waves
 
@@ -96,7 +86,7 @@ ofWave Sawtooth s n i = sawtoothAt s n i
 
 -- the sample at place i of n
 unfoldable pub sampleAt : Shape → ℕ → ℕ → Float
-sampleAt s n i = ofWave (s .wave) s (number n) (number i)
+sampleAt s n i = ofWave (s .wave) s (count32 n) (count32 i)
 
 -- 01, row 3: "a slice of samples that is filled by the generator has more than 65,536 places", and "Nothing but 0 writes"; else every place has its sample
 unfoldable pub generated : Shape → List Float → Written Float

@@ -1,7 +1,8 @@
 // One sample of each wave, operation by operation as the Rust.
 ghost use mathlib.Core.Path.{_≡_};
 ghost use Prim.Native.Nat.{_≤_, _<_};
-ghost use Rattle.generator.specs.Sample.{number, samplesPerPeriod, pwmAt, tMod, triangularAt, sawtoothAt, sampleAt};
+ghost use Rattle.laws.specs.Literals.{count32};
+ghost use Rattle.generator.specs.Sample.{samplesPerPeriod, pwmAt, tMod, triangularAt, sawtoothAt, sampleAt};
 use crate::Shape;
 use crate::Wave;
 
@@ -10,7 +11,7 @@ const PI: f32 = 3.14159265358979323846264338327950288;
 // A count of at most 65,536 as an f32, exactly.
 fn counted(n: usize) -> f32
     requires { ⌜ n ≤ 65536 ⌝ }
-    ensures { λ r. ⌜ r ≡ number n ⌝ }
+    ensures { λ r. ⌜ r ≡ count32 n ⌝ }
 {
     n as f32
 }

@@ -3,9 +3,9 @@ use mathlib.Core.Bool.{true, false, cond}
 use mathlib.Core.List.{List}
 use Prim.Native.Nat.{ℕ}
 use lib.Dec.{ltb}
-use lib.IntN.{pos}
 use lib.ListN.{set, getD, replicate}
-use lib.Ieee.{Float, nan, fin}
+use lib.Ieee.{nan}
+use Rattle.laws.specs.Literals.{zero32, zero64}
 use Rattle.port.specs.declared.Reading.{Reading}
 use Rattle.port.specs.declared.Reading.the-variants.{Number, Absent}
 use Rattle.port.specs.declared.Slot.{Slot}
@@ -23,26 +23,23 @@ withPlace h n v = cond (ltb n 16) (set h n (record { reading = v })) h
 
 -- ---- 01, item 9, `reset_power_params`: the Rust's defaults
 
-abbrev pub zero : Float
-zero = fin false 0 (pos 0)
-
 -- no reading
 abbrev pub none : Slot
 none = record { reading = Absent }
 
 abbrev pub cleared : Port
 cleared = record {
-  voltage = zero;
-  current = zero;
+  voltage = zero32;
+  current = zero32;
   frequency = none;
   «phase_angle» = none;
-  «active_power» = zero;
+  «active_power» = zero32;
   «reactive_power» = none;
   «apparent_power» = none;
   «power_factor» = none;
   «displacement_pf» = none;
-  «energy_imported» = zero;
-  «energy_exported» = zero;
+  «energy_imported» = zero64;
+  «energy_exported» = zero64;
   «voltage_thd» = none;
   «current_thd» = none;
   «voltage_crest_factor» = none;
@@ -51,10 +48,10 @@ cleared = record {
   «current_harmonics» = replicate 16 none;
   efficiency = none;
   losses = none;
-  «voltage_min» = zero;
-  «voltage_max» = zero;
-  «current_max» = zero;
-  «power_max» = zero;
+  «voltage_min» = zero32;
+  «voltage_max» = zero32;
+  «current_max» = zero32;
+  «power_max» = zero32;
   «is_enabled» = true;
   «is_faulted» = false;
   temperature = none;

@@ -2,3 +2,4 @@
 pub mod Crossing
 pub mod PowerCrossing
 pub mod Scratch
+pub mod PortCrossing

@@ -1,5 +1,4 @@
 -- `generator::parts::pwm_at` meets its contract: the test picks the case. Assumes nothing.
-use lib.Ieee.{ofBits}
 use borrow.Author.Needs.{needs}
 use Rattle.generator.specs.Sample.{pwmAt}
 use Rattle.generator.proofs.parts.pwm_at.Statement.{statement}
@@ -13,7 +12,7 @@ unfolding pwmAt
 returns c = simp (← c .before .before .samples-per-period .ensures, c .if1 .taken)
 
 returns-2 : tie.Need-returns-2
-unfolding pwmAt ofBits
+unfolding pwmAt
 returns-2 c = simp (← c .before .before .samples-per-period .ensures, c .if1 .left)
 
 pub pwm-at-spec : {M : Type 1} → statement M

@@ -1,5 +1,4 @@
 -- `generator::parts::sawtooth_at` meets its contract: operation by operation. Assumes nothing.
-use lib.Ieee.{ofBits}
 use borrow.Author.Needs.{needs}
 use Rattle.generator.specs.Sample.{period, sawtoothAt}
 use Rattle.generator.proofs.parts.sawtooth_at.Statement.{statement}
@@ -9,7 +8,7 @@ t-mod-requires : tie.Need-t-mod-requires
 t-mod-requires c κs = search needs
 
 returns : tie.Need-returns
-unfolding period sawtoothAt ofBits
+unfolding period sawtoothAt
 returns c = cc
 
 pub sawtooth-at-spec : {M : Type 1} → statement M

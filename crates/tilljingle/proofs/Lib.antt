@@ -1,0 +1,2 @@
+-- Laws of what crosses the boundary. Assumes nothing.
+pub mod PortCrossing
