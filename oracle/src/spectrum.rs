@@ -4,7 +4,7 @@ use crate::common::{bits64, black_box, list32, Check, Kind, Log, Random, Table, 
 use crate::signal::dft_magnitude_spectrum;
 
 /// Spectra of 64 samples of a full comparison: fewer of longer ones, as many of shorter.
-pub const ROUNDS: u64 = 40_000;
+pub const ROUNDS: u64 = 10_000;
 
 extern "C" {
     fn tj_dft_magnitude_spectrum(samples: *const f32, n: usize, output: *mut f32, n_output: usize) -> u8;
