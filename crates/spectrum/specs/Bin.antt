@@ -21,7 +21,7 @@ sumsWith re im = record { real = re; imag = im }
 
 -- the Rust's `real += sample * cos(angle); imag -= sample * sin(angle)`, in f64
 unfoldable pub turned : Sums → Float → Float → Float → Sums
-turned s x c n = sumsWith (add binary64 (s .real) (mul binary64 x c)) (sub binary64 (s .imag) (mul binary64 x n))
+turned s x cos sin = sumsWith (add binary64 (s .real) (mul binary64 x cos)) (sub binary64 (s .imag) (mul binary64 x sin))
 
 -- the sums of bin k over the first i samples, in index order from 0
 unfoldable pub sumsTo : List Float → ℕ → ℕ → Sums

@@ -1,4 +1,4 @@
--- A bin underway, in the walk that works out several: its sums so far, and the place around the turn of the next sample. Definitions only.
+-- Several bins in one walk over the samples: a bin underway, and the four that are stored at its end. Definitions only.
 use mathlib.Core.List.{List}
 use Prim.Native.Nat.{ℕ, _+_, _%_}
 use lib.ListN.{set}
@@ -10,6 +10,7 @@ use Rattle.spectrum.specs.declared.several.Four.{Four}
 use Rattle.spectrum.specs.Bin.{stepOf, turned, sizeOf}
 use Rattle.spectrum.specs.Spectrum.{halved}
 
+-- its sums so far, and the place around the turn of its next sample
 abbrev pub running : Sums → ℕ → Running
 running s at = record { sums = s; at = at }
 

@@ -13,7 +13,7 @@ use Rattle.laws.specs.Filled.{filled}
 use Rattle.spectrum.specs.Grid.{onGrid}
 use Rattle.spectrum.specs.Bin.{magnitudeOf}
 
--- 01, "Bin 0 is halved at the end": m is the magnitude of bin k, an f32
+-- 01, "Bin 0 is halved at the end": the f32 m, the magnitude of bin k, divided by 2.0 in f32
 unfoldable pub halved : ℕ → Float → Float
 halved k m = cond (eqb k 0) (div binary32 m (ofBits binary32 1073741824)) m
 

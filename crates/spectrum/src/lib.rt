@@ -12,17 +12,7 @@ ghost use Rattle.spectrum.specs.Spectrum.{bins, outcomeOf, spectrumOf};
 ghost use Rattle.spectrum.specs.Sines.{worked, sineAt, spectrumIn};
 
 pub mod parts;
-pub mod several;
-
-// A length on the grid is 0, or divides 4,096.
-fn on_grid(n: usize) -> bool
-    ensures { λ r. ⌜ r ≡ onGrid n ⌝ }
-{
-    if n == 0 {
-        return true;
-    }
-    4096 % n == 0
-}
+mod several;
 
 // The refusals in their order.
 fn judged(n: usize, short: bool) -> Outcome
@@ -31,7 +21,7 @@ fn judged(n: usize, short: bool) -> Outcome
     if n > answers::LONGEST {
         return Outcome::TooLong;
     }
-    if !on_grid(n) {
+    if !parts::on_grid(n) {
         return Outcome::OffGrid;
     }
     if short {

@@ -1,4 +1,4 @@
-// One bin of the spectrum, for the spectrum and for whoever needs single bins. The table is named by the caller, once, and lent.
+// The grid of lengths, and one bin of the spectrum, for the spectrum itself and for whoever needs single bins. The table is named by the caller, once, and lent.
 ghost use mathlib.Core.Path.{_≡_};
 ghost use mathlib.Core.Bool.{true};
 ghost use Prim.Native.Nat.{_<_, _≤_};
@@ -8,11 +8,26 @@ ghost use Rattle.spectrum.specs.Grid.{onGrid};
 ghost use Rattle.spectrum.specs.Bin.{turned, sumsOf, sizeOf, magnitudeOf};
 ghost use Rattle.spectrum.specs.Spectrum.{halved};
 
+// A length on the grid is 0, or divides 4,096.
+pub fn on_grid(n: usize) -> bool
+    ensures { λ r. ⌜ r ≡ onGrid n ⌝ }
+{
+    if n == 0 {
+        return true;
+    }
+    4096 % n == 0
+}
+
 // The real and the imaginary sum of a bin.
 pub struct Sums {
     pub real: f64,
     pub imag: f64,
 }
+
+pub const NO_SUMS: Sums = Sums {
+    real: 0.0,
+    imag: 0.0,
+};
 
 // One sample more.
 pub fn turn(s: Sums, x: f64, cosine: f64, sine: f64) -> Sums
@@ -33,10 +48,7 @@ pub fn bin_sums(table: &[u32; 1025], samples: &[f32], k: usize) -> Sums
 {
     let n = samples.len();
     let by = k * (4096 / n);
-    let mut sums = Sums {
-        real: 0.0,
-        imag: 0.0,
-    };
+    let mut sums = NO_SUMS;
     let mut angle: usize = 0;
     let mut i: usize = 0;
     while i < n {

@@ -33,10 +33,7 @@ pub struct Running {
 }
 
 const START: Running = Running {
-    sums: parts::Sums {
-        real: 0.0,
-        imag: 0.0,
-    },
+    sums: parts::NO_SUMS,
     at: 0,
 };
 

@@ -1,11 +1,11 @@
--- `spectrum::on_grid` meets its contract. Assumes nothing.
+-- `spectrum::parts::on_grid` meets its contract. Assumes nothing.
 use borrow.Author.Needs.{needs}
 use mathlib.Core.Path.{sym, ap, _∙_}
 use native.Mathlib.Omega.{arith}
 use Rattle.spectrum.specs.Grid.{onGrid}
 use Rattle.spectrum.proofs.Grid.{grid-zero, grid-test}
-use Rattle.spectrum.proofs.on_grid.Statement.{statement}
-use Rattle.spectrum.proofs.on_grid.Tie as tie
+use Rattle.spectrum.proofs.parts.on_grid.Statement.{statement}
+use Rattle.spectrum.proofs.parts.on_grid.Tie as tie
 
 returns : tie.Need-returns
 returns c = sym (ap onGrid (c .if1 .taken) ∙ grid-zero)
