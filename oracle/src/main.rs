@@ -37,6 +37,8 @@ macro_rules! areas {
 areas! {
     number,
     spectrum,
+    generator,
+    port,
 }
 
 fn usage() -> ExitCode {

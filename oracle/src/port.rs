@@ -1,0 +1,304 @@
+//! Port readings, against the setters and getters of the Rust's `Signal`. Over the boundary a plain field is read and set as a field; the calls do the rest.
+
+use crate::common::{black_box, same32, same64, Kind, Log, Random, Table};
+use crate::signal::Signal;
+
+/// Random sequences of a full comparison.
+pub const ROUNDS: u64 = 500_000;
+
+/// The most calls of a sequence.
+const CALLS: u64 = 20;
+
+/// A reading as it crosses the boundary; absent, it has the value 0.
+#[repr(C)]
+#[derive(Debug, Clone, Copy)]
+pub struct Reading {
+    pub present: bool,
+    pub value: f32,
+}
+
+pub const ABSENT: Reading = Reading {
+    present: false,
+    value: 0.0,
+};
+
+impl From<Option<f32>> for Reading {
+    fn from(number: Option<f32>) -> Reading {
+        number.map_or(ABSENT, |value| Reading { present: true, value })
+    }
+}
+
+impl From<Reading> for Option<f32> {
+    fn from(reading: Reading) -> Option<f32> {
+        reading.present.then(|| reading.value)
+    }
+}
+
+impl Reading {
+    fn same(self, other: Reading) -> bool {
+        self.present == other.present && same32(self.value, other.value)
+    }
+}
+
+#[repr(C)]
+#[derive(Debug, Clone, Copy)]
+pub struct Port {
+    pub voltage: f32,
+    pub current: f32,
+    pub frequency: Reading,
+    pub phase_angle: Reading,
+    pub active_power: f32,
+    pub reactive_power: Reading,
+    pub apparent_power: Reading,
+    pub power_factor: Reading,
+    pub displacement_pf: Reading,
+    pub energy_imported: f64,
+    pub energy_exported: f64,
+    pub voltage_thd: Reading,
+    pub current_thd: Reading,
+    pub voltage_crest_factor: Reading,
+    pub current_crest_factor: Reading,
+    pub voltage_harmonics: [Reading; 16],
+    pub current_harmonics: [Reading; 16],
+    pub efficiency: Reading,
+    pub losses: Reading,
+    pub voltage_min: f32,
+    pub voltage_max: f32,
+    pub current_max: f32,
+    pub power_max: f32,
+    pub is_enabled: bool,
+    pub is_faulted: bool,
+    pub temperature: Reading,
+}
+
+extern "C" {
+    fn tj_instantaneous_power(port: Port) -> f32;
+    fn tj_reset_power_params(port: Port) -> Port;
+    fn tj_voltage_harmonic(port: Port, n: u8) -> Reading;
+    fn tj_current_harmonic(port: Port, n: u8) -> Reading;
+    fn tj_set_voltage_harmonic(port: Port, n: u8, value: Reading) -> Port;
+    fn tj_set_current_harmonic(port: Port, n: u8, value: Reading) -> Port;
+}
+
+impl Port {
+    /// What the Rust's getters give.
+    pub fn of(signal: &Signal) -> Port {
+        let mut voltage_harmonics = [ABSENT; 16];
+        let mut current_harmonics = [ABSENT; 16];
+        for n in 0..16u8 {
+            voltage_harmonics[n as usize] = signal.voltage_harmonic(n).into();
+            current_harmonics[n as usize] = signal.current_harmonic(n).into();
+        }
+        Port {
+            voltage: signal.voltage(),
+            current: signal.current(),
+            frequency: signal.frequency().into(),
+            phase_angle: signal.phase_angle().into(),
+            active_power: signal.active_power(),
+            reactive_power: signal.reactive_power().into(),
+            apparent_power: signal.apparent_power().into(),
+            power_factor: signal.power_factor().into(),
+            displacement_pf: signal.displacement_pf().into(),
+            energy_imported: signal.energy_imported(),
+            energy_exported: signal.energy_exported(),
+            voltage_thd: signal.voltage_thd().into(),
+            current_thd: signal.current_thd().into(),
+            voltage_crest_factor: signal.voltage_crest_factor().into(),
+            current_crest_factor: signal.current_crest_factor().into(),
+            voltage_harmonics,
+            current_harmonics,
+            efficiency: signal.efficiency().into(),
+            losses: signal.losses().into(),
+            voltage_min: signal.voltage_min(),
+            voltage_max: signal.voltage_max(),
+            current_max: signal.current_max(),
+            power_max: signal.power_max(),
+            is_enabled: signal.is_enabled(),
+            is_faulted: signal.is_faulted(),
+            temperature: signal.temperature().into(),
+        }
+    }
+
+    fn readings(&self) -> Vec<Reading> {
+        let mut all = vec![
+            self.frequency,
+            self.phase_angle,
+            self.reactive_power,
+            self.apparent_power,
+            self.power_factor,
+            self.displacement_pf,
+            self.voltage_thd,
+            self.current_thd,
+            self.voltage_crest_factor,
+            self.current_crest_factor,
+            self.efficiency,
+            self.losses,
+            self.temperature,
+        ];
+        all.extend(self.voltage_harmonics);
+        all.extend(self.current_harmonics);
+        all
+    }
+
+    fn numbers(&self) -> [f32; 7] {
+        [
+            self.voltage,
+            self.current,
+            self.active_power,
+            self.voltage_min,
+            self.voltage_max,
+            self.current_max,
+            self.power_max,
+        ]
+    }
+
+    pub fn same(&self, other: &Port) -> bool {
+        self.numbers().iter().zip(other.numbers()).all(|(a, b)| same32(*a, b))
+            && self.readings().iter().zip(other.readings()).all(|(a, b)| a.same(b))
+            && same64(self.energy_imported, other.energy_imported)
+            && same64(self.energy_exported, other.energy_exported)
+            && self.is_enabled == other.is_enabled
+            && self.is_faulted == other.is_faulted
+    }
+}
+
+fn number(random: &mut Random) -> f32 {
+    random.sample(Kind::Mixed)
+}
+
+fn reading(random: &mut Random) -> Reading {
+    match random.below(4) {
+        0 => ABSENT,
+        _ => Some(number(random)).into(),
+    }
+}
+
+/// A harmonic place, often past the last.
+fn place(random: &mut Random) -> u8 {
+    match random.below(4) {
+        0 => random.below(256) as u8,
+        _ => random.below(18) as u8,
+    }
+}
+
+/// One setting, the same on both sides.
+pub fn set(random: &mut Random, ours: &mut Port, theirs: &mut Signal) {
+    macro_rules! one {
+        ($field:ident, $setter:ident, $value:expr) => {{
+            let value = $value;
+            ours.$field = value;
+            theirs.$setter(value.into());
+        }};
+    }
+    match random.below(28) {
+        0 => one!(voltage, set_voltage, number(random)),
+        1 => one!(current, set_current, number(random)),
+        2 => one!(frequency, set_frequency, reading(random)),
+        3 => one!(phase_angle, set_phase_angle, reading(random)),
+        4 => one!(active_power, set_active_power, number(random)),
+        5 => one!(reactive_power, set_reactive_power, reading(random)),
+        6 => one!(apparent_power, set_apparent_power, reading(random)),
+        7 => one!(power_factor, set_power_factor, reading(random)),
+        8 => one!(displacement_pf, set_displacement_pf, reading(random)),
+        9 => one!(energy_imported, set_energy_imported, f64::from_bits(random.bits())),
+        10 => one!(energy_exported, set_energy_exported, f64::from_bits(random.bits())),
+        11 => one!(voltage_thd, set_voltage_thd, reading(random)),
+        12 => one!(current_thd, set_current_thd, reading(random)),
+        13 => one!(voltage_crest_factor, set_voltage_crest_factor, reading(random)),
+        14 => one!(current_crest_factor, set_current_crest_factor, reading(random)),
+        15 => one!(efficiency, set_efficiency, reading(random)),
+        16 => one!(losses, set_losses, reading(random)),
+        17 => one!(temperature, set_temperature, reading(random)),
+        18 => {
+            let [low, high, current, power] = [0; 4].map(|_| number(random));
+            ours.voltage_min = low;
+            ours.voltage_max = high;
+            ours.current_max = current;
+            ours.power_max = power;
+            theirs.set_limits(low, high, current, power);
+        }
+        19 => {
+            ours.is_enabled = random.below(2) == 0;
+            ours.is_faulted = random.below(2) == 0;
+            theirs.set_state(ours.is_enabled, ours.is_faulted);
+        }
+        20 => {
+            *ours = unsafe { tj_reset_power_params(*ours) };
+            theirs.reset_power_params();
+        }
+        kind => {
+            let (n, value) = (place(random), reading(random));
+            if kind % 2 == 0 {
+                *ours = unsafe { tj_set_voltage_harmonic(*ours, n, value) };
+                theirs.set_voltage_harmonic(n, value.into());
+            } else {
+                *ours = unsafe { tj_set_current_harmonic(*ours, n, value) };
+                theirs.set_current_harmonic(n, value.into());
+            }
+        }
+    }
+}
+
+pub fn compare(rounds: u64, log: &mut Log) {
+    let whole = log.check("the whole port after each call");
+    let power = log.check("tj_instantaneous_power, instantaneous_power");
+    let voltage = log.check("tj_voltage_harmonic, voltage_harmonic");
+    let current = log.check("tj_current_harmonic, current_harmonic");
+    let mut random = Random::new(9);
+    for _ in 0..rounds {
+        let (volts, amps, frequency) = (number(&mut random), number(&mut random), reading(&mut random));
+        let mut theirs = Signal::new_power_port(volts, amps, frequency.into(), &mut []);
+        let mut ours = Port::of(&theirs);
+        for _ in 0..random.below(CALLS) + 1 {
+            set(&mut random, &mut ours, &mut theirs);
+            let expected = Port::of(&theirs);
+            log.see(whole, ours.same(&expected), || format!("{:?}, Rust {:?}", ours, expected));
+            let n = place(&mut random);
+            unsafe {
+                log.see32(power, tj_instantaneous_power(ours), theirs.instantaneous_power(), || {
+                    format!("{:?}", ours)
+                });
+                let (a, b) = (tj_voltage_harmonic(ours, n), theirs.voltage_harmonic(n).into());
+                log.see(voltage, a.same(b), || format!("{}: {:?}, Rust {:?}", n, a, b));
+                let (a, b) = (tj_current_harmonic(ours, n), theirs.current_harmonic(n).into());
+                log.see(current, a.same(b), || format!("{}: {:?}, Rust {:?}", n, a, b));
+            }
+        }
+    }
+}
+
+pub fn bench(table: &mut Table) {
+    let mut signal = Signal::new_power_port(230.0, 5.0, Some(50.0), &mut []);
+    let mut port = Port::of(&signal);
+    let value: Reading = Some(2.5).into();
+    table.each(
+        "set_voltage_harmonic",
+        16,
+        || {
+            for n in 0..16 {
+                signal.set_voltage_harmonic(black_box(n), black_box(Some(2.5)));
+                black_box(&mut signal);
+            }
+        },
+        || {
+            for n in 0..16 {
+                port = unsafe { tj_set_voltage_harmonic(port, black_box(n), black_box(value)) };
+                black_box(&mut port);
+            }
+        },
+    );
+    table.each(
+        "voltage_harmonic",
+        16,
+        || {
+            for n in 0..16 {
+                black_box(black_box(&signal).voltage_harmonic(black_box(n)));
+            }
+        },
+        || {
+            for n in 0..16 {
+                black_box(unsafe { tj_voltage_harmonic(*black_box(&port), black_box(n)) });
+            }
+        },
+    );
+}
