@@ -1,0 +1,2 @@
+-- What the theorem speaks of. Assumes nothing.
+pub mod Codes
