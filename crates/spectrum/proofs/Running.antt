@@ -42,20 +42,17 @@ mask-lt n m g h = rw (mask-is n m g h) (mod-lt m h)
 -- ---- one sample more
 
 -- the code's turn, which reads the sine and the cosine from the list, is the definition's
-pub step-is : (n : ℕ) (w : List Float) (b : Running) (x : Float) (k : ℕ) (r : Sums) → onGrid n ≡ true → 8 ≤ n → Sines n w → b .at < n
-    → r ≡ turned (b .sums) x (getD w (bitAnd (b .at + n / 4) (n - 1)) nan) (getD w (b .at) nan)
-    → running r (bitAnd (b .at + k) (n - 1)) ≡ stepped n b x k
+pub step-is : (n : ℕ) (w : List Float) (b : Running) (x : Float) (k : ℕ) (ahead next : ℕ) (r : Sums) → onGrid n ≡ true → 8 ≤ n → Sines n w → b .at < n
+    → ahead ≡ (b .at + n / 4) % n → next ≡ (b .at + k) % n → r ≡ turned (b .sums) x (getD w ahead nan) (getD w (b .at) nan)
+    → running r next ≡ stepped n b x k
 unfolding stepped sineAt
-step-is n w b x k r g l s h e =
+step-is n w b x k ahead next r g l s h p q e =
     let pos : 0 < n = omega arith in
-    let at = b .at in
-    let ahead = (at + n / 4) % n in
-    let c : getD w (bitAnd (at + n / 4) (n - 1)) nan ≡ cosineOf (stepOf n at) =
-    ap (λ (j : ℕ). getD w j nan) (mask-is n (at + n / 4) g pos) ∙ s .at ahead (mod-lt (at + n / 4) pos) ∙ sym (quarter-on n g pos l at) in
-    let d : getD w at nan ≡ sineOf (stepOf n at) = s .at at h in
-    let f : r ≡ turned (b .sums) x (cosineOf (stepOf n at)) (sineOf (stepOf n at)) =
-    e ∙ ap (λ (y : Float). turned (b .sums) x y (getD w at nan)) c ∙ ap (λ (y : Float). turned (b .sums) x (cosineOf (stepOf n at)) y) d in
-    ap (λ (j : ℕ). running r j) (mask-is n (at + k) g pos) ∙ ap (λ (z : Sums). running z ((at + k) % n)) f
+    let a = (b .at + n / 4) % n in
+    let c : getD w ahead nan ≡ cosineOf (stepOf n (b .at)) =
+    ap (λ (j : ℕ). getD w j nan) p ∙ s .at a (mod-lt (b .at + n / 4) pos) ∙ sym (quarter-on n g pos l (b .at)) in
+    let d : getD w (b .at) nan ≡ sineOf (stepOf n (b .at)) = s .at (b .at) h in
+    rw (q, e, c, d)
 
 -- bin k when the first i samples are in its sums
 abbrev pub runningTo : List Float → ℕ → ℕ → Running

@@ -2,7 +2,7 @@
 use crate::parts;
 ghost use mathlib.Core.Path.{_≡_};
 ghost use mathlib.Core.Bool.{true};
-ghost use Prim.Native.Nat.{_+_, _/_, _<_, _≤_};
+ghost use Prim.Native.Nat.{_+_, _/_, _%_, _<_, _≤_};
 ghost use lib.ListN.{length};
 ghost use Rattle.laws.specs.Filled.{filled};
 ghost use Rattle.quarter.specs.Table.{quarterTable};
@@ -37,7 +37,16 @@ const START: Running = Running {
     at: 0,
 };
 
-// One sample more of bin k. The length is a power of two, so a mask takes a place around the turn; the cosine is a quarter of the turn on.
+// A place around the turn. The length is a power of two, so a mask takes the remainder.
+fn around(n: usize, place: usize) -> usize
+    requires { ⌜ onGrid n ≡ true ⌝ }
+    requires { ⌜ 0 < n ⌝ }
+    ensures { λ r. ⌜ (r ≡ place % n) × (r < n) ⌝ }
+{
+    place & (n - 1)
+}
+
+// One sample more of bin k; the cosine stands a quarter of the turn on.
 fn step(sines: &[f64], n: usize, b: Running, x: f64, k: usize) -> Running
     requires { ⌜ Sines n (now sines) ⌝ }
     requires { ⌜ onGrid n ≡ true ⌝ }
@@ -48,10 +57,10 @@ fn step(sines: &[f64], n: usize, b: Running, x: f64, k: usize) -> Running
 {
     let sums = b.sums;
     let at = b.at;
-    let ahead = (at + n / 4) & (n - 1);
+    let ahead = around(n, at + n / 4);
     Running {
         sums: parts::turn(sums, x, sines[ahead], sines[at]),
-        at: (at + k) & (n - 1),
+        at: around(n, at + k),
     }
 }
 
