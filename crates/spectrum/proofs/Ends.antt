@@ -7,7 +7,7 @@ use lib.Dec.{ltb}
 use native.Mathlib.Omega.{arith}
 use lib.ListN.{length}
 use lib.Ieee.{Float}
-use borrow.Author.Tests.{eq-eqb, ne-eqb, le-ltb, ltb-false}
+use borrow.Author.Tests.{eq-eqb, ne-eqb, ltb-false}
 use Rattle.answers.specs.declared.Outcome.{Outcome}
 use Rattle.answers.specs.declared.Outcome.the-variants.{Done, OutputShort, TooLong, OffGrid}
 use Rattle.answers.specs.Numbers.{numberOf, tooLong, refuse}
@@ -72,13 +72,3 @@ module _ (xs w out : List Float) (o : Outcome) (d : ℕ) (ended : o ≡ outcomeO
 
   pub done-in : d ≡ 0 → (l v : List Float) → l ≡ bins xs out → v ≡ filled (sineAt (length xs)) (length xs) w → worked o l v ≡ spectrumIn xs w out
   done-in z l v e f = left-in-both l v (changed o (bins xs out) out d number z ∙ sym e) (changed o (filled (sineAt (length xs)) (length xs) w) w d number z ∙ sym f)
-
-or-false : (a : Bool) → (a || false) ≡ a
-or-false true = refl
-or-false false = refl
-
--- the same figures: where the scratch has room, a call with it ends and writes as the call without
-pub same-figures : (xs w out : List Float) → length xs ≤ length w
-    → written (spectrumIn xs w out .outcome) (spectrumIn xs w out .places) ≡ spectrumOf xs out
-unfolding spectrumIn spectrumOf
-same-figures xs w out h = rw (le-ltb (length w) (length xs) h, or-false (outputShort xs out))

@@ -3,6 +3,7 @@ pub mod Grid
 pub mod Angle
 pub mod Turns
 pub mod Ends
+pub mod SameFigures
 pub mod Starred
 pub mod Examples
 pub mod Running

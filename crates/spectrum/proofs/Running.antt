@@ -7,7 +7,7 @@ use native.Mathlib.Nat.{mul-add, mul-one, mul-zero, zero-mod, mod-lt, mod-add-mo
 use native.Mathlib.Numerals.{add-one}
 use native.Mathlib.Omega.{arith}
 use lib.Bits.{bitAnd, and-mask}
-use lib.ListN.{length, getD, length-set}
+use lib.ListN.{length, getD}
 use lib.Ieee.{Float, nan}
 use Rattle.laws.specs.Filled.{filled}
 use Rattle.laws.proofs.Filling.{filled-length, filled-at, filled-next}
@@ -82,10 +82,6 @@ unfolding sumsOf
 running-all xs k i e f = rw e (ap (sumsTo xs k) f)
 
 -- ---- the stores
-
-pub stored-length : (out : List Float) (k : ℕ) (s : Sums) (n : ℕ) → length (stored out k s n) ≡ length out
-unfolding stored
-stored-length out k s n = length-set out k (halved k (sizeOf s n))
 
 -- one bin more in its place
 stored-next : (xs out o : List Float) (k m : ℕ) (s : Sums) → k + 1 ≡ m → k < length out → s ≡ sumsOf xs k → o ≡ filled (binOf xs) k out

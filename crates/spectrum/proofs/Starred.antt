@@ -20,10 +20,10 @@ abbrev whole : ℕ → Float
 whole n = fin false n (pos 0)
 
 -- with three places of output, of which the third stays
-four : spectrumOf (whole 1 ∷ whole 0 ∷ fin true 1 (pos 0) ∷ whole 0 ∷ []) (whole 7 ∷ whole 7 ∷ whole 7 ∷ []) ≡ written Done (whole 0 ∷ whole 1 ∷ whole 7 ∷ [])
+pub four : spectrumOf (whole 1 ∷ whole 0 ∷ fin true 1 (pos 0) ∷ whole 0 ∷ []) (whole 7 ∷ whole 7 ∷ whole 7 ∷ []) ≡ written Done (whole 0 ∷ whole 1 ∷ whole 7 ∷ [])
 unfolding spectrumOf outcomeOf onGrid lengths ifDone filled binOf halved magnitudeOf sizeOf sumsOf sumsTo turned angleOf stepOf sineOf cosineOf quadrant fraction quarterTable root wholeRoot rootIn narrow add sub mul div neg sum round units odd size span climb trailingZeros ofInt ofBits ofFields
 four = refl
 
-pair : spectrumOf (whole 3 ∷ whole 1 ∷ []) (whole 7 ∷ []) ≡ written Done (fin false 1 (pos 1) ∷ [])
+pub pair : spectrumOf (whole 3 ∷ whole 1 ∷ []) (whole 7 ∷ []) ≡ written Done (fin false 1 (pos 1) ∷ [])
 unfolding spectrumOf outcomeOf onGrid lengths ifDone filled binOf halved magnitudeOf sizeOf sumsOf sumsTo turned angleOf stepOf sineOf cosineOf quadrant fraction quarterTable root wholeRoot rootIn narrow add sub mul div neg sum round units odd size span climb trailingZeros ofInt ofBits ofFields
 pair = refl
