@@ -1,0 +1,4 @@
+-- Laws that the proofs cite. Assumes nothing.
+mod Saturating
+pub mod Orders
+mod Whole

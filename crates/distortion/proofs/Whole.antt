@@ -1,0 +1,31 @@
+-- THD put together from what the calls give. Assumes nothing.
+use mathlib.Core.Path.{_≡_}
+use mathlib.Core.Bool.{true, false}
+use mathlib.Core.List.{List}
+use Prim.Native.Nat.{ℕ, _-_, _/_}
+use lib.ListN.{length}
+use lib.Ieee.{Float, binary32, binary64, mul, div, lt}
+use Rattle.number.specs.Number.{narrow, root}
+use Rattle.spectrum.specs.Bin.{magnitudeOf}
+use Rattle.distortion.specs.Thd.{binOf, usable, lastOrder, powerOf, tiny, hundred, thdFrom, thdAt, thdOf}
+
+module _ (top : ℕ) (earlier : Float) (xs : List Float) where
+  -- the fundamental is heard, or silent
+  pub heard : (bin last : ℕ) (f p r w : Float) → f ≡ magnitudeOf xs bin → lt tiny f ≡ true → last ≡ lastOrder top (length xs / 2) bin → p ≡ powerOf xs bin (last - 1)
+      → r ≡ root binary64 p → w ≡ narrow r → mul binary32 (div binary32 w f) hundred ≡ thdAt top bin earlier xs
+  unfolding thdAt thdFrom
+  heard bin last f p r w ef t el ep er ew = rw (← ef, t, ew, er, ep, el)
+
+  pub silent : (bin : ℕ) (f : Float) → f ≡ magnitudeOf xs bin → lt tiny f ≡ false → earlier ≡ thdAt top bin earlier xs
+  unfolding thdAt thdFrom
+  silent bin f ef t = rw (← ef, t)
+
+  -- the bin is usable, or not
+  pub worked : (frequency : Float) (bin : ℕ) (r : Float) → bin ≡ binOf frequency (length xs) → usable frequency (length xs / 2) bin ≡ true → r ≡ thdAt top bin earlier xs
+      → r ≡ thdOf top frequency earlier xs
+  unfolding thdOf
+  worked frequency bin r e u t = rw (← e, u) t
+
+  pub kept : (frequency : Float) (bin : ℕ) → bin ≡ binOf frequency (length xs) → usable frequency (length xs / 2) bin ≡ false → earlier ≡ thdOf top frequency earlier xs
+  unfolding thdOf
+  kept frequency bin e u = rw (← e, u)

@@ -1,0 +1,51 @@
+-- The THD that a signal keeps, over the highest order. Definitions only.
+use Prim.Native.Nat.{ℕ, zero, suc, _+_, _-_, _*_, _/_, min}
+use mathlib.Core.Bool.{Bool, cond, _&&_}
+use mathlib.Core.List.{List}
+use lib.Dec.{ltb}
+use lib.ListN.{length}
+use lib.Ieee.{Float, binary32, binary64, add, mul, div, lt, ofBits, toUnsigned}
+use Rattle.laws.specs.Literals.{zero32, zero64, count32}
+use Rattle.number.specs.Number.{narrow, root, roundAway}
+use Rattle.spectrum.specs.Bin.{magnitudeOf}
+
+-- the Rust's `roundf(frequency * n / rate) as usize`, where n samples are one second, so that the rate is n.
+-- 01, "`roundf(..) as usize` saturates: NaN gives 0, too large gives no usable bin"
+unfoldable pub binOf : Float → ℕ → ℕ
+binOf frequency n = toUnsigned 64 (roundAway binary32 (div binary32 (mul binary32 frequency (count32 n)) (count32 n)))
+
+-- 01, "the fundamental bin is unusable (half the length is at most 1, the frequency isn't above 0, or the rounded bin is 0 or not below half)"
+unfoldable pub usable : Float → ℕ → ℕ → Bool
+usable frequency half bin = ltb 1 half && (lt zero32 frequency && (ltb 0 bin && ltb bin half))
+
+-- 01, "THD in `Signal` uses orders up to 16 and bins below half": the last order h, of at most `top`, with bin * h below half
+unfoldable pub lastOrder : ℕ → ℕ → ℕ → ℕ
+lastOrder top half bin = min top ((half - 1) / bin)
+
+-- 01, "Sums are f64, in index order": one harmonic more, its magnitude an f32
+unfoldable pub withSquare : Float → Float → Float
+withSquare sum m = add binary64 sum (mul binary64 m m)
+
+-- the power of k harmonics, from order 2 on
+unfoldable pub powerOf : List Float → ℕ → ℕ → Float
+powerOf xs bin zero = zero64
+powerOf xs bin (suc k) = withSquare (powerOf xs bin k) (magnitudeOf xs (bin * (k + 2)))
+
+-- the f32 nearest to 1e-12, and 100
+abbrev pub tiny : Float
+tiny = ofBits binary32 0x2B8CBCCC
+
+abbrev pub hundred : Float
+hundred = ofBits binary32 0x42C80000
+
+-- the Rust's `(sqrt(power) as f32 / fundamental) * 100.0`; 01, where "its magnitude isn't above 1e-12, `Signal` keeps its earlier THD"
+unfoldable pub thdFrom : Float → Float → Float → Float
+thdFrom fundamental power earlier = cond (lt tiny fundamental) (mul binary32 (div binary32 (narrow (root binary64 power)) fundamental) hundred) earlier
+
+unfoldable pub thdAt : ℕ → ℕ → Float → List Float → Float
+thdAt top bin earlier xs = thdFrom (magnitudeOf xs bin) (powerOf xs bin (lastOrder top (length xs / 2) bin - 1)) earlier
+
+unfoldable pub thdOf : ℕ → Float → Float → List Float → Float
+thdOf top frequency earlier xs =
+    let bin = binOf frequency (length xs) in
+    cond (usable frequency (length xs / 2) bin) (thdAt top bin earlier xs) earlier

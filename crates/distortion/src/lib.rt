@@ -1,0 +1,4 @@
+// The THD that a signal keeps: step 10 of the Rust's calculate_metrics, without its decibels.
+mod fundamental;
+mod harmonics;
+pub mod parts;
