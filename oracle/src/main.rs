@@ -39,6 +39,7 @@ areas! {
     spectrum,
     generator,
     port,
+    figures,
 }
 
 fn usage() -> ExitCode {

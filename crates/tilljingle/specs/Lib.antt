@@ -3,3 +3,4 @@ pub mod Crossing
 pub mod PowerCrossing
 pub mod Scratch
 pub mod PortCrossing
+pub mod FiguresCrossing

@@ -1,0 +1,3 @@
+-- Laws that the proofs of `figures` cite. Assumes nothing.
+pub mod Bounds
+pub mod Whole

@@ -1,0 +1,26 @@
+-- `figures::duty::duty_of` meets its contract. Assumes nothing.
+use borrow.Author.Needs.{needs}
+use native.Mathlib.Omega.{arith}
+use denote.Ref.{now}
+use Rattle.figures.specs.Duty.{dutyOf}
+use Rattle.figures.proofs.Bounds.{highs-le}
+use Rattle.figures.proofs.duty.duty_of.Statement.{statement}
+use Rattle.figures.proofs.duty.duty_of.Tie as tie
+
+count-high-requires : tie.Need-count-high-requires
+count-high-requires c κs = search needs
+
+counted-requires : tie.Need-counted-requires
+counted-requires c κs =
+    let a = c .before .before .args in
+    rw (c .count-high .ensures) (omega (arith, highs-le (a .wave) (a .amplitude) (now (a .samples))))
+
+counted-requires-2 : tie.Need-counted-requires-2
+counted-requires-2 c κs = search needs
+
+returns : tie.Need-returns
+unfolding dutyOf
+returns c = cc
+
+pub duty-of-spec : {M : Type 1} → statement M
+duty-of-spec = tie.close (tie.spec count-high-requires counted-requires counted-requires-2 returns)

@@ -1,0 +1,99 @@
+-- The 19 time figures of a capture (01, item 5: "steps 1 to 9 of `calculate_metrics`, 19 of the 24 fields of `SignalMetrics`"), one definition each, and the answer. Definitions only.
+-- The samples are one second, so the sample rate is their count.
+use mathlib.Core.Bool.{cond}
+use mathlib.Core.List.{List}
+use lib.Dec.{eqb}
+use lib.ListN.{length}
+use lib.Ieee.{Float, binary32, sub, neg}
+use Rattle.answers.specs.declared.Outcome.{Outcome}
+use Rattle.answers.specs.declared.Outcome.the-variants.{Done, TooLong}
+use Rattle.answers.specs.Numbers.{tooLong}
+use Rattle.generator.specs.declared.Wave.{Wave}
+use Rattle.laws.specs.Literals.{one32, count32}
+use Rattle.timing.specs.Timing.{frequencyAbout, slewOf}
+use Rattle.figures.specs.declared.TimeFigures.{TimeFigures}
+use Rattle.figures.specs.declared.TimeAnswer.{TimeAnswer}
+use Rattle.figures.specs.Levels.{maxOf, minOf, averageOf, dcRmsOf, acRmsOf, rectifiedOf}
+use Rattle.figures.specs.Duty.{dutyOf}
+use Rattle.figures.specs.Edges.{timesOf}
+use Rattle.figures.specs.Ratios.{ratioOf, crestOf, periodOf, excessOf}
+
+-- ---- of the levels: max, min, average, dc_rms and ac_rms are those of Levels.antt
+
+abbrev pub peakToPeakOf : List Float → Float
+peakToPeakOf xs = sub binary32 (maxOf xs) (minOf xs)
+
+abbrev pub positivePeakOf : List Float → Float
+positivePeakOf xs = sub binary32 (maxOf xs) (averageOf xs)
+
+abbrev pub negativePeakOf : List Float → Float
+negativePeakOf xs = sub binary32 (averageOf xs) (minOf xs)
+
+-- the RMS over the rectified mean
+abbrev pub formFactorOf : List Float → Float
+formFactorOf xs = ratioOf (dcRmsOf xs) (rectifiedOf xs)
+
+abbrev pub crestFactorOf : List Float → Float
+crestFactorOf xs = crestOf (maxOf xs) (minOf xs) (dcRmsOf xs)
+
+-- how far the maximum lies above the amplitude, and the minimum below minus the amplitude
+abbrev pub overshootOf : Float → List Float → Float
+overshootOf amplitude xs = excessOf (maxOf xs) amplitude (peakToPeakOf xs)
+
+abbrev pub undershootOf : Float → List Float → Float
+undershootOf amplitude xs = excessOf (neg amplitude) (minOf xs) (peakToPeakOf xs)
+
+-- ---- of time: duty_cycle_pos is that of Duty.antt
+
+-- the part of the samples that are not high, as the Rust takes it
+abbrev pub restOf : Wave → Float → List Float → Float
+restOf wave amplitude xs = sub binary32 one32 (dutyOf wave amplitude xs)
+
+abbrev pub riseTimeOf : Float → List Float → Float
+riseTimeOf frequency xs = timesOf (minOf xs) (peakToPeakOf xs) frequency xs .rise
+
+abbrev pub fallTimeOf : Float → List Float → Float
+fallTimeOf frequency xs = timesOf (minOf xs) (peakToPeakOf xs) frequency xs .fall
+
+abbrev pub hertzOf : List Float → Float
+hertzOf xs = frequencyAbout (averageOf xs) xs (count32 (length xs))
+
+abbrev pub slewRateOf : List Float → Float
+slewRateOf xs = slewOf xs (count32 (length xs))
+
+-- ---- the record, in SignalMetrics' order
+
+unfoldable pub figuresOf : Wave → Float → Float → List Float → TimeFigures
+figuresOf wave amplitude frequency xs =
+    record {
+      «peak_to_peak» = peakToPeakOf xs;
+      max = maxOf xs;
+      min = minOf xs;
+      «positive_peak» = positivePeakOf xs;
+      «negative_peak» = negativePeakOf xs;
+      average = averageOf xs;
+      «dc_rms» = dcRmsOf xs;
+      «ac_rms» = acRmsOf xs;
+      «duty_cycle_pos» = dutyOf wave amplitude xs;
+      «duty_cycle_neg» = restOf wave amplitude xs;
+      «rise_time» = riseTimeOf frequency xs;
+      «fall_time» = fallTimeOf frequency xs;
+      «crest_factor» = crestFactorOf xs;
+      frequency = hertzOf xs;
+      period = periodOf (hertzOf xs);
+      «form_factor» = formFactorOf xs;
+      overshoot = overshootOf amplitude xs;
+      undershoot = undershootOf amplitude xs;
+      «slew_rate» = slewRateOf xs;
+    }
+
+-- ---- the answer
+
+abbrev pub answer : Outcome → TimeFigures → TimeAnswer
+answer o r = record { outcome = o; figures = r }
+
+-- 01, row 3: 3 for more than 65,536 samples, and "an earlier record handed in comes back unchanged"; item 5: "With no samples the earlier record comes back as it was"
+unfoldable pub answerOf : Wave → Float → Float → TimeFigures → List Float → TimeAnswer
+answerOf wave amplitude frequency earlier xs =
+    cond (tooLong (length xs)) (answer TooLong earlier)
+    (answer Done (cond (eqb (length xs) 0) earlier (figuresOf wave amplitude frequency xs)))

@@ -1,0 +1,72 @@
+-- The levels of the samples: extremes, means and RMS values (01, item 5 and 'Rules taken from the Rust'). Definitions only.
+-- A Float has no width: an f32 and the f64 that it widens to are the same value.
+use mathlib.Core.Bool.{true, false}
+use mathlib.Core.List.{List}
+use lib.ListN.{length}
+use lib.Ieee.{Float, inf, binary32, binary64, add, sub, mul}
+use Rattle.laws.specs.Literals.{zero64}
+use Rattle.laws.specs.Samples.{higher, lower}
+use Rattle.laws.specs.Walks.{over}
+use Rattle.number.specs.Number.{root, abs}
+use Rattle.timing.specs.Timing.{totalOf, meanOf}
+use Rattle.figures.specs.declared.levels.Extremes.{Extremes}
+use Rattle.figures.specs.declared.levels.Sums.{Sums}
+use Rattle.figures.specs.declared.levels.Levels.{Levels}
+
+-- ---- extremes. 01, "Maximum starts at minus infinity and minimum at plus infinity; a sample replaces one only if strictly beyond it. A NaN never does."
+
+unfoldable pub maxOf : List Float → Float
+maxOf xs = over higher (inf true) xs (length xs)
+
+unfoldable pub minOf : List Float → Float
+minOf xs = over lower (inf false) xs (length xs)
+
+abbrev pub extremesOf : List Float → Extremes
+extremesOf xs = record { max = maxOf xs; min = minOf xs }
+
+-- ---- sums. 01, "Sums are f64, in index order from 0"
+
+-- f of one sample more
+abbrev pub adding : (Float → Float) → Float → Float → Float
+adding f t x = add binary64 t (f x)
+
+unfoldable pub sumOf : (Float → Float) → List Float → Float
+sumOf f xs = over (adding f) zero64 xs (length xs)
+
+-- the square of an f32, in f64
+abbrev pub square : Float → Float
+square x = mul binary64 x x
+
+-- the square of the f32 difference from the average
+abbrev pub away : Float → Float → Float
+away average x = square (sub binary32 x average)
+
+abbrev pub rippleOf : Float → List Float → Float
+rippleOf average xs = sumOf (away average) xs
+
+abbrev pub sumsOf : List Float → Sums
+sumsOf xs = record { total = totalOf xs; squares = sumOf square xs; sizes = sumOf abs xs }
+
+-- ---- means, each an f64 quotient, narrowed once
+
+unfoldable pub averageOf : List Float → Float
+averageOf xs = meanOf (totalOf xs) (length xs)
+
+-- the rectified mean: of the sizes
+unfoldable pub rectifiedOf : List Float → Float
+rectifiedOf xs = meanOf (sumOf abs xs) (length xs)
+
+-- ---- RMS. 01, "`dc_rms` narrows the mean square to f32 and then takes the f32 root"
+
+-- with the DC part
+unfoldable pub dcRmsOf : List Float → Float
+dcRmsOf xs = root binary32 (meanOf (sumOf square xs) (length xs))
+
+-- without it
+unfoldable pub acRmsOf : List Float → Float
+acRmsOf xs = root binary32 (meanOf (rippleOf (averageOf xs) xs) (length xs))
+
+-- ---- all six
+
+abbrev pub levelsOf : List Float → Levels
+levelsOf xs = record { max = maxOf xs; min = minOf xs; average = averageOf xs; «dc_rms» = dcRmsOf xs; «ac_rms» = acRmsOf xs; rectified = rectifiedOf xs }

@@ -1,0 +1,27 @@
+-- Figures of other figures: quotients that are 0 where their divisor is too small (the Rust's steps 3, 6, 7 and 9). Definitions only.
+use mathlib.Core.Bool.{cond, _&&_}
+use lib.Ieee.{Float, binary32, sub, mul, div, lt, ofBits}
+use Rattle.laws.specs.Literals.{zero32, one32}
+use Rattle.laws.specs.Samples.{higher}
+use Rattle.number.specs.Number.{abs}
+
+-- the f32 nearest to 1e-12
+abbrev pub tiny : Float
+tiny = ofBits binary32 0x2B8CBCCC
+
+-- 0 where b is not above 1e-12, a NaN included
+unfoldable pub ratioOf : Float → Float → Float
+ratioOf a b = cond (lt tiny b) (div binary32 a b) zero32
+
+-- the larger size of the extremes, over the RMS
+unfoldable pub crestOf : Float → Float → Float → Float
+crestOf max min rms = ratioOf (higher (abs max) (abs min)) rms
+
+-- 0 where the frequency is not above 0
+unfoldable pub periodOf : Float → Float
+periodOf frequency = cond (lt zero32 frequency) (div binary32 one32 frequency) zero32
+
+-- how far x lies above the limit, in percent of the swing; 0 where it does not, or the swing is not above 1e-12
+unfoldable pub excessOf : Float → Float → Float → Float
+excessOf x limit swing =
+    cond (lt tiny swing && lt limit x) (mul binary32 (div binary32 (sub binary32 x limit) swing) (ofBits binary32 0x42C80000)) zero32

@@ -1,0 +1,249 @@
+-- What samples that are no numbers do to the figures, from the definitions: one NaN among any samples, and nothing but NaN. Assumes nothing.
+-- (What one infinity does is computed in Shown.antt.)
+use Prim.Native.Nat.{ℕ, zero, suc, _+_, _-_}
+use mathlib.Core.Path.{_≡_, refl, sym, ap, _∙_}
+use mathlib.Core.Bool.{Bool, true, false, cond, _&&_}
+use mathlib.Core.List.{List, [], _∷_, _++_}
+use lib.ListN.{length, getD}
+use lib.Ieee.{Float, nan, inf, fin, Format, binary32, binary64, add, sub, mul, div, neg, lt, le, eq, ofBits}
+use Rattle.generator.specs.declared.Wave.{Wave}
+use Rattle.generator.specs.declared.Wave.the-variants.{DC, PWM, Triangular, Sawtooth}
+use Rattle.laws.specs.Literals.{zero32, zero64, count32}
+use Rattle.laws.specs.Samples.{higher, lower}
+use Rattle.laws.specs.Walks.{over, pairs}
+use Rattle.number.specs.Number.{narrow, root, abs}
+use Rattle.timing.specs.Timing.{totalOf, meanOf, risesAt, crossingAt, noCrossing, crossingsOf, frequencyFrom, frequencyAbout, slewAt, steepestOf, slewOf}
+use Rattle.figures.specs.declared.edges.Edges.{Edges}
+use Rattle.figures.specs.Levels.{maxOf, minOf, adding, sumOf, square, away, averageOf, rectifiedOf, dcRmsOf, acRmsOf}
+use Rattle.figures.specs.Duty.{millionth, near, isHigh, tally, highsOf}
+use Rattle.figures.specs.Edges.{noEdge, riseBegins, riseCounts, fallBegins, fallCounts, edgeAt, edgesOf}
+use Rattle.figures.specs.Ratios.{ratioOf, crestOf, periodOf, excessOf}
+use Rattle.figures.specs.Figures.{peakToPeakOf, positivePeakOf, negativePeakOf, crestFactorOf, formFactorOf, hertzOf, slewRateOf, overshootOf, undershootOf}
+
+-- ---- a NaN in an operation, and in a comparison
+add-nan : (f : Format) (x : Float) → add f x nan ≡ nan
+unfolding add
+add-nan f nan = refl
+add-nan f (inf s) = refl
+add-nan f (fin s m e) = refl
+
+nan-add : (f : Format) (x : Float) → add f nan x ≡ nan
+unfolding add
+nan-add f x = refl
+
+sub-nan : (f : Format) (x : Float) → sub f x nan ≡ nan
+unfolding sub neg
+sub-nan f x = add-nan f x
+
+nan-sub : (f : Format) (x : Float) → sub f nan x ≡ nan
+unfolding sub
+nan-sub f x = nan-add f (neg x)
+
+lt-nan : (x : Float) → lt x nan ≡ false
+unfolding lt
+lt-nan nan = refl
+lt-nan (inf s) = refl
+lt-nan (fin s m e) = refl
+
+nan-lt : (x : Float) → lt nan x ≡ false
+unfolding lt
+nan-lt x = refl
+
+le-nan : (x : Float) → le x nan ≡ false
+unfolding le lt eq
+le-nan nan = refl
+le-nan (inf s) = refl
+le-nan (fin s m e) = refl
+
+nan-le : (x : Float) → le nan x ≡ false
+unfolding le lt eq
+nan-le x = refl
+
+and-false : (b : Bool) → (b && false) ≡ false
+and-false true = refl
+and-false false = refl
+
+-- ---- a walk over the samples, from the front
+module _ {A : Type 0} (f : A → Float → A) where
+  over-front : (a : A) (x : Float) (xs : List Float) (k : ℕ) → over f a (x ∷ xs) (suc k) ≡ over f (f a x) xs k
+  unfolding over
+  over-front a x xs zero = refl
+  over-front a x xs (suc k) = ap (λ (t : A). f t (getD xs k nan)) (over-front a x xs k)
+
+  -- a step that takes no notice of a NaN: the walk is that of the other samples
+  pub left-out : ((a : A) → f a nan ≡ a) → (a : A) (xs ys : List Float) → over f a (xs ++ nan ∷ ys) (length (xs ++ nan ∷ ys)) ≡ over f a (xs ++ ys) (length (xs ++ ys))
+  left-out h a [] ys = over-front a nan ys (length ys) ∙ ap (λ (t : A). over f t ys (length ys)) (h a)
+  left-out h a (x ∷ xs) ys = over-front a x (xs ++ nan ∷ ys) _ ∙ (left-out h (f a x) xs ys ∙ sym (over-front a x (xs ++ ys) _))
+
+-- an f64 sum that meets a NaN is a NaN
+module _ (f : Float → Float) (h : f nan ≡ nan) where
+  stays : (xs : List Float) (k : ℕ) → over (adding f) nan xs k ≡ nan
+  unfolding over
+  stays xs zero = refl
+  stays xs (suc k) = ap (λ (t : Float). add binary64 t (f (getD xs k nan))) (stays xs k) ∙ nan-add binary64 _
+
+  pub sum-nan : (a : Float) (xs ys : List Float) → over (adding f) a (xs ++ nan ∷ ys) (length (xs ++ nan ∷ ys)) ≡ nan
+  sum-nan a [] ys =
+      over-front (adding f) a nan ys (length ys)
+      ∙ (ap (λ (t : Float). over (adding f) (add binary64 a t) ys (length ys)) h ∙ (ap (λ (t : Float). over (adding f) t ys (length ys)) (add-nan binary64 a) ∙ stays ys (length ys)))
+  sum-nan a (x ∷ xs) ys = over-front (adding f) a x (xs ++ nan ∷ ys) _ ∙ sum-nan (adding f a x) xs ys
+
+-- ---- one NaN among any samples: xs before it, ys after it
+abbrev pub withNan : List Float → List Float → List Float
+withNan xs ys = xs ++ nan ∷ ys
+
+module _ (xs ys : List Float) where
+  -- extremes, and the count of high samples, are those of the others
+  pub nan-max : maxOf (withNan xs ys) ≡ maxOf (xs ++ ys)
+  unfolding maxOf higher
+  nan-max = left-out higher (λ (m : Float). ap (λ (b : Bool). cond b nan m) (lt-nan m)) (inf true) xs ys
+
+  pub nan-min : minOf (withNan xs ys) ≡ minOf (xs ++ ys)
+  unfolding minOf lower
+  nan-min = left-out lower (λ (m : Float). ap (λ (b : Bool). cond b nan m) (nan-lt m)) (inf false) xs ys
+
+  not-high : (wave : Wave) (amplitude : Float) → isHigh wave amplitude nan ≡ false
+  unfolding near abs
+  not-high DC amplitude = lt-nan zero32
+  not-high PWM amplitude = ap (λ (x : Float). lt (abs x) millionth) (nan-sub binary32 amplitude) ∙ nan-lt millionth
+  not-high Triangular amplitude = lt-nan zero32
+  not-high Sawtooth amplitude = lt-nan zero32
+
+  pub nan-highs : (wave : Wave) (amplitude : Float) → highsOf wave amplitude (withNan xs ys) ≡ highsOf wave amplitude (xs ++ ys)
+  unfolding highsOf
+  nan-highs wave amplitude = left-out (tally wave amplitude) (λ (n : ℕ). ap (λ (b : Bool). cond b (n + 1) n) (not-high wave amplitude)) 0 xs ys
+
+  -- the means and RMS values are NaN
+  pub nan-average : averageOf (withNan xs ys) ≡ nan
+  unfolding averageOf totalOf meanOf div narrow
+  nan-average = ap (λ (t : Float). meanOf t (length (withNan xs ys))) (sum-nan (λ (x : Float). x) refl zero64 xs ys)
+
+  mean-nan : (f : Float → Float) → f nan ≡ nan → meanOf (sumOf f (withNan xs ys)) (length (withNan xs ys)) ≡ nan
+  unfolding sumOf meanOf div narrow
+  mean-nan f h = ap (λ (t : Float). meanOf t (length (withNan xs ys))) (sum-nan f h zero64 xs ys)
+
+  square-nan : square nan ≡ nan
+  unfolding mul
+  square-nan = refl
+
+  pub nan-dc-rms : dcRmsOf (withNan xs ys) ≡ nan
+  unfolding dcRmsOf root
+  nan-dc-rms = ap (root binary32) (mean-nan square square-nan)
+
+  pub nan-ac-rms : acRmsOf (withNan xs ys) ≡ nan
+  unfolding acRmsOf root
+  nan-ac-rms = ap (root binary32) (mean-nan (away (averageOf (withNan xs ys))) (ap square (nan-sub binary32 _) ∙ square-nan))
+
+  pub nan-rectified : rectifiedOf (withNan xs ys) ≡ nan
+  unfolding rectifiedOf abs
+  nan-rectified = mean-nan abs refl
+
+  pub nan-positive-peak : positivePeakOf (withNan xs ys) ≡ nan
+  nan-positive-peak = rw nan-average (sub-nan binary32 _)
+
+  pub nan-negative-peak : negativePeakOf (withNan xs ys) ≡ nan
+  nan-negative-peak = rw nan-average (nan-sub binary32 _)
+
+  -- what is divided by one of them, or counts crossings of one, is 0
+  pub nan-crest : crestFactorOf (withNan xs ys) ≡ zero32
+  unfolding crestOf ratioOf
+  nan-crest = rw (nan-dc-rms, lt-nan)
+
+  pub nan-form : formFactorOf (withNan xs ys) ≡ zero32
+  unfolding ratioOf
+  nan-form = rw (nan-rectified, lt-nan)
+
+  no-crossing : (zs : List Float) (k : ℕ) → pairs (crossingAt nan) noCrossing zs k ≡ noCrossing
+  unfolding pairs crossingAt risesAt
+  no-crossing zs zero = refl
+  no-crossing zs (suc k) = rw (sub-nan, nan-lt) (no-crossing zs k)
+
+  pub nan-hertz : hertzOf (withNan xs ys) ≡ zero32
+  unfolding frequencyAbout crossingsOf frequencyFrom
+  nan-hertz = rw (nan-average, no-crossing)
+
+  pub nan-period : periodOf (hertzOf (withNan xs ys)) ≡ zero32
+  unfolding periodOf lt ofBits
+  nan-period = rw nan-hertz
+
+-- a step into a NaN neither begins an edge nor counts for one, and is no slew; a step out of one begins no edge, and is no slew
+pub edge-into : (low high : Float) (s : Edges) (i : ℕ) (prev : Float) → edgeAt low high s i prev nan ≡ s
+unfolding edgeAt riseBegins riseCounts fallBegins fallCounts
+edge-into low high s i prev = simp (lt-nan, nan-lt, le-nan, nan-le, and-false)
+
+pub rise-out : (low : Float) (s : Edges) (curr : Float) → riseBegins low s nan curr ≡ s
+unfolding riseBegins
+rise-out low s curr = rw nan-le
+
+pub fall-out : (high : Float) (s : Edges) (curr : Float) → fallBegins high s nan curr ≡ s
+unfolding fallBegins
+fall-out high s curr = rw le-nan
+
+pub slew-into : (dt m : Float) (i : ℕ) (prev : Float) → slewAt dt m i prev nan ≡ m
+unfolding slewAt higher abs div
+slew-into dt m i prev = rw (nan-sub, lt-nan)
+
+pub slew-out : (dt m : Float) (i : ℕ) (curr : Float) → slewAt dt m i nan curr ≡ m
+unfolding slewAt higher abs div
+slew-out dt m i curr = rw (sub-nan, lt-nan)
+
+-- ---- nothing but NaN, which is one NaN after no samples and before NaN: so what is said above holds here too
+abbrev pub nans : ℕ → List Float
+nans zero = []
+nans (suc n) = nan ∷ nans n
+
+nans-at : (n k : ℕ) → getD (nans n) k nan ≡ nan
+nans-at zero k = refl
+nans-at (suc n) zero = refl
+nans-at (suc n) (suc k) = nans-at n k
+
+pub nans-max : (n : ℕ) → maxOf (nans n) ≡ inf true
+unfolding maxOf over
+nans-max zero = refl
+nans-max (suc n) = nan-max [] (nans n) ∙ nans-max n
+
+pub nans-min : (n : ℕ) → minOf (nans n) ≡ inf false
+unfolding minOf over
+nans-min zero = refl
+nans-min (suc n) = nan-min [] (nans n) ∙ nans-min n
+
+pub nans-highs : (wave : Wave) (amplitude : Float) (n : ℕ) → highsOf wave amplitude (nans n) ≡ 0
+unfolding highsOf over
+nans-highs wave amplitude zero = refl
+nans-highs wave amplitude (suc n) = nan-highs [] (nans n) wave amplitude ∙ nans-highs wave amplitude n
+
+pub nans-swing : (n : ℕ) → peakToPeakOf (nans n) ≡ inf true
+unfolding sub add neg
+nans-swing n = rw (nans-max n, nans-min n)
+
+pub nans-overshoot : (amplitude : Float) (n : ℕ) → overshootOf amplitude (nans n) ≡ zero32
+unfolding excessOf lt ofBits
+nans-overshoot amplitude n = rw (nans-swing n)
+
+pub nans-undershoot : (amplitude : Float) (n : ℕ) → undershootOf amplitude (nans n) ≡ zero32
+unfolding excessOf lt ofBits
+nans-undershoot amplitude n = rw (nans-swing n)
+
+pub nans-edges : (low high : Float) (n : ℕ) → edgesOf low high (nans n) ≡ noEdge
+unfolding edgesOf pairs
+nans-edges low high n = none (length (nans n) - 1)
+  where
+    none : (k : ℕ) → pairs (edgeAt low high) noEdge (nans n) k ≡ noEdge
+    none zero = refl
+    none (suc k) = rw (nans-at n (suc k), edge-into) (none k)
+
+nans-steepest : (dt : Float) (n : ℕ) → steepestOf dt (nans n) ≡ zero32
+unfolding steepestOf pairs
+nans-steepest dt n = none (length (nans n) - 1)
+  where
+    none : (k : ℕ) → pairs (slewAt dt) zero32 (nans n) k ≡ zero32
+    none zero = refl
+    none (suc k) = rw (nans-at n (suc k), slew-into) (none k)
+
+pub nans-slew : (n : ℕ) → slewRateOf (nans n) ≡ zero32
+unfolding slewOf
+nans-slew n = rw nans-steepest (either (le (count32 (length (nans n))) zero32))
+  where
+    either : (b : Bool) → cond b zero32 zero32 ≡ zero32
+    either true = refl
+    either false = refl

@@ -1,0 +1,101 @@
+// The levels of the samples: extremes, means and RMS values.
+ghost use mathlib.Core.Path.{_≡_};
+ghost use Prim.Native.Nat.{_≤_};
+ghost use lib.ListN.{length};
+ghost use Rattle.answers.specs.Numbers.{longest};
+ghost use Rattle.figures.specs.Levels.{extremesOf, sumsOf, rippleOf, levelsOf};
+use number::parts::lowered;
+use number::parts::raised;
+use timing::parts::mean;
+
+pub struct Extremes {
+    pub max: f32,
+    pub min: f32,
+}
+
+// From minus infinity and infinity: a NaN is no extreme.
+fn find_extremes(samples: &[f32]) -> Extremes
+    ensures { λ r. ⌜ r ≡ extremesOf (now (samples .entry)) ⌝ }
+{
+    let mut max: f32 = f32::from_bits(0xff80_0000);
+    let mut min: f32 = f32::from_bits(0x7f80_0000);
+    let mut k = 0usize;
+    while k < samples.len() {
+        max = raised(max, samples[k]);
+        min = lowered(min, samples[k]);
+        k += 1;
+    }
+    Extremes { max, min }
+}
+
+// Of the samples, their squares and their sizes.
+pub struct Sums {
+    pub total: f64,
+    pub squares: f64,
+    pub sizes: f64,
+}
+
+// The three sums in one loop: their additions run side by side.
+fn sum_up(samples: &[f32]) -> Sums
+    ensures { λ r. ⌜ r ≡ sumsOf (now (samples .entry)) ⌝ }
+{
+    let mut total: f64 = 0.0;
+    let mut squares: f64 = 0.0;
+    let mut sizes: f64 = 0.0;
+    let mut k = 0usize;
+    while k < samples.len() {
+        let x = std::num::f32_to_f64_with_nan(samples[k]);
+        total = total + x;
+        squares = squares + x * x;
+        sizes = sizes + std::num::f32_to_f64_with_nan(number::abs32(samples[k]));
+        k += 1;
+    }
+    Sums {
+        total,
+        squares,
+        sizes,
+    }
+}
+
+// The squares of the f32 differences from the average.
+fn ripple(samples: &[f32], average: f32) -> f64
+    ensures { λ r. ⌜ r ≡ rippleOf average (now (samples .entry)) ⌝ }
+{
+    let mut squares: f64 = 0.0;
+    let mut k = 0usize;
+    while k < samples.len() {
+        let x = std::num::f32_to_f64_with_nan(samples[k] - average);
+        squares = squares + x * x;
+        k += 1;
+    }
+    squares
+}
+
+pub struct Levels {
+    pub max: f32,
+    pub min: f32,
+    pub average: f32,
+    pub dc_rms: f32,
+    pub ac_rms: f32,
+    pub rectified: f32,
+}
+
+// Each mean is narrowed first, and then a root is an f32's.
+pub fn levels_of(samples: &[f32]) -> Levels
+    requires { ⌜ length (now samples) ≤ longest ⌝ }
+    ensures { λ r. ⌜ r ≡ levelsOf (now (samples .entry)) ⌝ }
+{
+    let n = samples.len();
+    let extreme = find_extremes(samples);
+    let sums = sum_up(samples);
+    let average = mean(sums.total, n);
+    let spread = ripple(samples, average);
+    Levels {
+        max: extreme.max,
+        min: extreme.min,
+        average: average,
+        dc_rms: number::sqrt32(mean(sums.squares, n)),
+        ac_rms: number::sqrt32(mean(spread, n)),
+        rectified: mean(sums.sizes, n),
+    }
+}

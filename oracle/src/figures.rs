@@ -1,0 +1,271 @@
+//! The time figures, against `calculate_metrics`.
+
+use crate::common::{bits32, black_box, list32, Check, Kind, Log, Random, Table, KINDS};
+use crate::signal::{Signal, SignalMetrics, SignalType};
+
+/// Random records of a full comparison.
+pub const ROUNDS: u64 = 400_000;
+
+/// The 19 figures in the order of include/tilljingle.h.
+#[repr(C)]
+#[derive(Debug, Clone, Copy)]
+struct TimeFigures {
+    values: [f32; 19],
+}
+
+#[repr(C)]
+#[derive(Debug, Clone, Copy)]
+struct TimeAnswer {
+    code: u8,
+    figures: TimeFigures,
+}
+
+extern "C" {
+    fn tj_calculate_time_figures(
+        wave: u8,
+        amplitude: f32,
+        frequency: f32,
+        earlier: TimeFigures,
+        samples: *const f32,
+        n: usize,
+    ) -> TimeAnswer;
+}
+
+/// The most samples that are taken.
+const LONGEST: usize = 65_536;
+
+/// One call.
+struct Record {
+    wave: u8,
+    amplitude: f32,
+    frequency: f32,
+    earlier: TimeFigures,
+    samples: Vec<f32>,
+}
+
+impl Record {
+    fn words(&self) -> String {
+        format!(
+            "wave {} amplitude {} frequency {} earlier {} samples {}",
+            self.wave,
+            bits32(self.amplitude),
+            bits32(self.frequency),
+            list32(&self.earlier.values),
+            list32(&self.samples)
+        )
+    }
+
+    fn ours(&self) -> TimeAnswer {
+        unsafe {
+            tj_calculate_time_figures(
+                self.wave,
+                self.amplitude,
+                self.frequency,
+                self.earlier,
+                self.samples.as_ptr(),
+                self.samples.len(),
+            )
+        }
+    }
+
+    fn theirs(&self) -> [f32; 19] {
+        let mut samples = self.samples.clone();
+        let earlier = metrics(&self.earlier);
+        let mut signal = Signal::tail_over(
+            wave_type(self.wave),
+            self.amplitude,
+            self.frequency,
+            &earlier,
+            &mut samples,
+        );
+        signal.tail_calculate();
+        signal.get_metrics().tail_time()
+    }
+
+    /// Every field, and the number of the answer. A refused record is to bring the earlier one.
+    fn see(&self, log: &mut Log, check: Check) {
+        let (code, expected) = if self.samples.len() > LONGEST {
+            (3, self.earlier.values)
+        } else {
+            (0, self.theirs())
+        };
+        let answer = self.ours();
+        log.see_all32(check, &answer.figures.values, &expected, || self.words());
+        if answer.code != code {
+            log.see(check, false, || format!("{}: code {}", self.words(), answer.code));
+        }
+    }
+}
+
+/// The Rust's wave of a number; numbers from 4 on are DC.
+fn wave_type(wave: u8) -> SignalType {
+    match wave {
+        1 => SignalType::PWM,
+        2 => SignalType::Triangular,
+        3 => SignalType::Sawtooth,
+        _ => SignalType::DC,
+    }
+}
+
+/// The earlier record with its 19 figures; the five of the spectrum are 0.
+fn metrics(figures: &TimeFigures) -> SignalMetrics {
+    let mut all = [0.0; 24];
+    all[..13].copy_from_slice(&figures.values[..13]);
+    all[14..20].copy_from_slice(&figures.values[13..]);
+    SignalMetrics::tail_from(&all)
+}
+
+/// How many forms `form` has beside the kinds of single samples.
+const FORMS: u64 = 8;
+
+/// A signal of the form with this number; `period` is in samples.
+fn form(random: &mut Random, which: u64, n: usize, amplitude: f32) -> Vec<f32> {
+    let period = 2 + random.below(40) as usize;
+    let shift = random.unit() as f32;
+    let constant = random.sample(Kind::Mixed);
+    let at = |i: usize| (i % period) as f32 / period as f32;
+    let sine = |i: usize| amplitude * ((at(i) + shift) * 6.283_185_5).sin();
+    let square = |i: usize, low: f32| if at(i) < shift { amplitude } else { low };
+    (0..n)
+        .map(|i| match which {
+            0 => constant,
+            1 => (i % period) as f32 - 3.0,
+            2 => amplitude * (at(i) - 0.5).abs(),
+            3 => square(i, 0.0) + 2e-6 * random.sample(Kind::Small),
+            4 => square(i, -amplitude) * (1.0 + 0.2 * random.sample(Kind::Small)),
+            5 => sine(i),
+            6 => sine(i) + 0.3 * random.sample(Kind::Small),
+            _ => match random.below(20) {
+                0 => random.sample(Kind::Special),
+                _ => sine(i),
+            },
+        })
+        .collect()
+}
+
+/// Lengths: mostly short, all that are special, now and then the longest and those that are refused.
+fn length(random: &mut Random) -> usize {
+    match random.below(4000) {
+        0..=3 => LONGEST - 2 + random.below(5) as usize,
+        4..=99 => random.below(4) as usize,
+        100..=199 => 100 + random.below(400) as usize,
+        _ => 1 + random.below(90) as usize,
+    }
+}
+
+/// A frequency. On a long capture it has no bin below half the length: there the Rust's spectrum would take hours.
+fn frequency(random: &mut Random, n: usize) -> f32 {
+    if n > 600 {
+        return random.pick(&[0.0, -1.0, f32::NAN, f32::INFINITY, n as f32, 1e9]);
+    }
+    match random.below(5) {
+        0 => random.sample(Kind::Mixed),
+        1 => 0.0,
+        2 => random.sample(Kind::Small) * 1e9,
+        _ => (random.unit() * 50.0) as f32,
+    }
+}
+
+fn random_record(random: &mut Random, round: u64) -> Record {
+    let n = length(random);
+    let amplitude = match random.below(3) {
+        0 => random.sample(Kind::Mixed),
+        _ => 10.0 * random.sample(Kind::Small),
+    };
+    let which = round % (KINDS.len() as u64 + FORMS);
+    let samples = match KINDS.get(which as usize) {
+        Some(kind) => random.samples(*kind, n),
+        None => form(random, which - KINDS.len() as u64, n, amplitude),
+    };
+    let mut values = [0.0; 19];
+    random.fill(Kind::Mixed, &mut values);
+    Record {
+        wave: if random.below(20) == 0 {
+            random.bits() as u8
+        } else {
+            random.below(4) as u8
+        },
+        amplitude,
+        frequency: frequency(random, n),
+        earlier: TimeFigures { values },
+        samples,
+    }
+}
+
+/// What the short captures are made of.
+const ALPHABET: [f32; 7] = [-1.0, -0.0, 0.0, 0.5, 1.0, f32::NAN, f32::INFINITY];
+
+/// The capture of this length with this number, below 7 to the length.
+fn short_capture(number: usize, length: u32) -> Vec<f32> {
+    (0..length).map(|i| ALPHABET[number / 7usize.pow(i) % 7]).collect()
+}
+
+/// Every capture of up to five samples of the alphabet, for every wave.
+fn compare_short(log: &mut Log) {
+    let check = log.check("tj_calculate_time_figures: every capture of up to 5 of -1, -0, 0, 1/2, 1, NaN, inf");
+    let earlier = TimeFigures { values: [7.0; 19] };
+    for length in 0..=5 {
+        for number in 0..7usize.pow(length) {
+            for (wave, amplitude, frequency) in [
+                (0, 1.0, 0.0),
+                (1, 1.0, 0.0),
+                (1, 0.5, 1.0),
+                (2, 0.5, 1.0),
+                (3, -1.0, 50.0),
+            ] {
+                let samples = short_capture(number, length);
+                Record {
+                    wave,
+                    amplitude,
+                    frequency,
+                    earlier,
+                    samples,
+                }
+                .see(log, check);
+            }
+        }
+    }
+}
+
+pub fn compare(rounds: u64, log: &mut Log) {
+    compare_short(log);
+    let check = log.check("tj_calculate_time_figures: random records");
+    let mut random = Random::new(5);
+    for round in 0..rounds {
+        random_record(&mut random, round).see(log, check);
+    }
+}
+
+pub fn bench(table: &mut Table) {
+    let n = 4096;
+    let mut random = Random::new(6);
+    let noise = random.samples(Kind::Small, n);
+    let wave: Vec<f32> = (0..n).map(|i| (i as f32 * 0.0107).sin() + 0.01 * noise[i]).collect();
+    let pulses: Vec<f32> = (0..n).map(|i| if i % 409 < 100 { 1.0 } else { 0.0 }).collect();
+    for (name, wave, samples) in [
+        ("calculate_time_figures, noise", 0, noise),
+        ("calculate_time_figures, a sine with noise", 2, wave),
+        ("calculate_time_figures, PWM", 1, pulses),
+    ] {
+        let record = Record {
+            wave,
+            amplitude: 1.0,
+            frequency: 0.0, // the Rust's spectrum is no part of it
+            earlier: TimeFigures { values: [0.0; 19] },
+            samples,
+        };
+        let mut samples = record.samples.clone();
+        let mut signal = Signal::tail_over(wave_type(wave), 1.0, 0.0, &metrics(&record.earlier), &mut samples);
+        table.row(
+            name,
+            n,
+            || {
+                black_box(&mut signal).tail_calculate();
+                black_box(&signal);
+            },
+            || {
+                black_box(black_box(&record).ours());
+            },
+        );
+    }
+}
