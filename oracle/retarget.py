@@ -3,8 +3,9 @@
 usage: retarget.py CLANG TRIPLE ARGUMENT..   with the arguments of one compilation, `-x ir MODULE -o OBJECT` among them
 
 The exported functions follow the C calling convention of x86-64; where the other processor's differs they are changed to it:
-a large struct by value is a pointer to the caller's copy, a small argument is not widened by the caller, and a struct of an
-integer and a float comes back in two integer registers. Only for measuring: nothing that is shipped goes through here."""
+a large struct by value is a pointer to the caller's copy, a small argument is not widened by the caller, a large struct comes
+back through a pointer in a register of its own, and a struct of an integer and a float in two integer registers. Only for
+measuring: nothing that is shipped goes through here."""
 import re
 import subprocess
 import sys
@@ -17,8 +18,10 @@ subprocess.run(
     check=True,
 )
 
+# a large struct comes back through a pointer: the first argument on x86-64, which is answered too; a register of its own elsewhere
+LARGE = re.compile(r"^define (?:noundef )?ptr @(tj_\w+)\(ptr noundef %a0(.*)\)(.*)\{$")
 MIXED = re.compile(r"^define (?:noundef )?(\{ (?:i64, double|double, i64) \}) @(tj_\w+)\(([^)]*)\)(.*)\{$")
-lines, wrappers = [], []
+lines, wrappers, returned = [], [], []
 for line in open(text, encoding="utf-8"):
     line = line.rstrip("\n")
     if line.startswith("target datalayout"):
@@ -30,12 +33,22 @@ for line in open(text, encoding="utf-8"):
     if line.startswith("define") and " @tj_" in line:
         line = re.sub(r" byval\([^)]*\)", "", line)
         line = re.sub(r" (?:zero|sign)ext", "", line)
+        large = LARGE.match(line)
+        if large:
+            name, params, rest = large.groups()
+            line = line.replace(f"@{name}(", f"@{name}.large(").replace("define ", "define internal ", 1)
+            returned.append((name, params))
         mixed = MIXED.match(line)
         if mixed:
             kind, name, params, rest = mixed.groups()
             line = line.replace(f"@{name}(", f"@{name}.mixed(").replace("define ", "define internal ", 1)
             wrappers.append((kind, name, params))
     lines.append(line)
+for name, params in returned:
+    lines.append(f"define void @{name}(ptr sret(i8) %a0{params}) {{")
+    lines.append(f"  %r = call ptr @{name}.large(ptr %a0{params})")
+    lines.append("  ret void")
+    lines.append("}")
 for kind, name, params in wrappers:
     parts = kind.strip("{ }").split(", ")
     lines.append(f"define {{ i64, i64 }} @{name}({params}) {{")

@@ -36,6 +36,7 @@ macro_rules! areas {
 // one name a line
 areas! {
     number,
+    power,
     spectrum,
     generator,
     port,
