@@ -4,3 +4,4 @@ pub mod PowerCrossing
 pub mod Scratch
 pub mod PortCrossing
 pub mod FiguresCrossing
+pub mod QualityCrossing

@@ -1,0 +1,40 @@
+-- `quality::distortion` meets its contract. Assumes nothing.
+use borrow.Author.Needs.{needs}
+use Rattle.quality.specs.Quality.{thdOf}
+use Rattle.quality.proofs.distortion.Statement.{statement}
+use Rattle.quality.proofs.distortion.Tie as tie
+
+mul-fund : tie.Need-mul-fund
+mul-fund c = search needs
+
+shared-slice-read-fund : tie.Need-shared-slice-read-fund
+shared-slice-read-fund c = search needs
+
+returns : tie.Need-returns
+unfolding thdOf
+returns c = rw (c .if1 .taken)
+
+power-requires : tie.Need-power-requires
+power-requires c κs = search needs
+
+sqrt64-requires : tie.Need-sqrt64-requires
+sqrt64-requires c κs = search needs
+
+narrow-requires : tie.Need-narrow-requires
+narrow-requires c κs = search needs
+
+returns-2 : tie.Need-returns-2
+unfolding thdOf
+returns-2 c = rw (c .before .before .before .if1 .left) (cc)
+
+pub distortion-spec : {M : Type 1} → statement M
+distortion-spec =
+    tie.close
+    (tie.spec
+    mul-fund
+    shared-slice-read-fund
+    returns
+    power-requires
+    sqrt64-requires
+    narrow-requires
+    returns-2)

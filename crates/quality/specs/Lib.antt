@@ -1,0 +1,4 @@
+-- What the contracts of `quality` cite. Assumes nothing.
+pub mod Powers
+pub mod Quality
+pub mod Kinds

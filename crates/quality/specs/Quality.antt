@@ -1,0 +1,95 @@
+-- What the five calls of `quality` answer, operation by operation (01, item 7). Definitions only.
+use Prim.Native.Nat.{ℕ, _-_}
+use mathlib.Core.Bool.{cond}
+use mathlib.Core.List.{List}
+use lib.Dec.{ltb, eqb}
+use lib.ListN.{length, getD}
+use lib.Ieee.{Float, nan, binary32, binary64, sub, mul, div, lt, ofBits}
+use Rattle.answers.specs.declared.Measured.{Measured}
+use Rattle.answers.specs.declared.Outcome.the-variants.{Done, TooLong}
+use Rattle.answers.specs.Numbers.{tooLong}
+use Rattle.laws.specs.Literals.{zero32, zero64}
+use Rattle.laws.specs.Samples.{higher}
+use Rattle.laws.specs.Walks.{pairs}
+use Rattle.number.specs.Number.{narrow, root}
+use Rattle.quality.specs.declared.Quotient.the-variants as Q
+use Rattle.quality.specs.declared.QuotientAnswer.{QuotientAnswer}
+use Rattle.quality.specs.declared.Sfdr.{Sfdr}
+use Rattle.quality.specs.declared.Sfdr.the-variants as S
+use Rattle.quality.specs.declared.SfdrAnswer.{SfdrAnswer}
+use Rattle.quality.specs.declared.Verdict.{Verdict}
+use Rattle.quality.specs.declared.Verdict.the-variants.{Refused, Unusable, Usable}
+use Rattle.quality.specs.Powers.{squareOf, powerOf}
+
+-- ---- which answer is given: 01, row 3, for more than 65,536 places; then "a bin of 0 or past the end is unusable"
+unfoldable pub judged : ℕ → ℕ → Verdict
+judged n b = cond (tooLong n) Refused (cond (eqb b 0) Unusable (cond (ltb b n) Usable Unusable))
+
+abbrev pub given : {A : Type 0} → Verdict → A → A → A → A
+given Refused refused unusable usable = refused
+given Unusable refused unusable usable = unusable
+given Usable refused unusable usable = usable
+
+-- 01: 1e-12 as the f32 nearest to it
+abbrev pub tiny : Float
+tiny = ofBits binary32 0x2B8CBCCC
+
+-- ---- distortion in percent: the root of the harmonics' power, narrowed, over the fundamental, times 100; 0 for a fundamental below 1e-12.
+-- `compute_thd_from_spectrum` "sums every multiple of the fundamental", from order 2 on
+unfoldable pub thdOf : List Float → ℕ → Float
+thdOf s b =
+    cond (lt (getD s b nan) tiny) zero32 (mul binary32 (div binary32 (narrow (root binary64 (powerOf s b 2))) (getD s b nan)) (ofBits binary32 0x42C80000))
+
+-- "a THD of 0.0 for a fundamental bin of 0 or past the end"
+unfoldable pub answerThd : List Float → ℕ → Measured
+answerThd s b =
+    given (judged (length s) b) (record { outcome = TooLong; value = zero32 }) (record { outcome = Done; value = zero32 })
+    (record { outcome = Done; value = thdOf s b })
+
+-- ---- effective bits: 1.76 and 6.02 are the f32 nearest to them
+unfoldable pub enobOf : Float → Float
+enobOf x = div binary32 (sub binary32 x (ofBits binary32 0x3FE147AE)) (ofBits binary32 0x40C0A3D7)
+
+-- ---- signal over noise, and signal over noise and distortion
+
+-- the fundamental's own power, and that of all places from 1 on: the multiples of 1 from order 1
+abbrev pub ownOf : List Float → ℕ → Float
+ownOf s b = squareOf (getD s b nan)
+
+abbrev pub totalOf : List Float → Float
+totalOf s = powerOf s 1 1
+
+-- noise that is not above 0 counts as the f64 1e-30
+unfoldable pub overNoise : Float → Float → Float
+overNoise own noise = div binary64 own (cond (lt zero64 noise) noise (ofBits binary64 0x39B4484BFEEBC2A0))
+
+unfoldable pub snrOf : List Float → ℕ → Float
+snrOf s b = overNoise (ownOf s b) (sub binary64 (sub binary64 (totalOf s) (ownOf s b)) (powerOf s b 2))
+
+unfoldable pub sinadOf : List Float → ℕ → Float
+sinadOf s b = overNoise (ownOf s b) (sub binary64 (totalOf s) (ownOf s b))
+
+-- "All three answer by name that a bin of 0 or past the end is unusable"; in a refusal "a quotient the ratio 0"
+unfoldable pub answerQuotient : (List Float → ℕ → Float) → List Float → ℕ → QuotientAnswer
+answerQuotient ratio s b =
+    given (judged (length s) b) (record { outcome = TooLong; quotient = Q.Ratio zero64 }) (record { outcome = Done; quotient = Q.UnusableBin })
+    (record { outcome = Done; quotient = Q.Ratio (ratio s b) })
+
+-- ---- the fundamental over the largest spur
+
+-- the largest so far, from 0, with the place i: the fundamental is no spur, and only what is strictly larger replaces it
+unfoldable pub spurAt : ℕ → Float → ℕ → Float → Float → Float
+spurAt b best i prev x = cond (eqb i b) best (higher best x)
+
+-- over the places from 1 on
+unfoldable pub spurOf : List Float → ℕ → Float
+spurOf s b = pairs (spurAt b) zero32 s (length s - 1)
+
+-- "either the ratio or the answer that there is no spur (largest spur at most 1e-12, no other bin, or NaN throughout)"
+unfoldable pub sfdrOf : List Float → ℕ → Sfdr
+sfdrOf s b = cond (lt tiny (spurOf s b)) (S.Ratio (div binary32 (getD s b nan) (spurOf s b))) S.NoSpur
+
+unfoldable pub answerSfdr : List Float → ℕ → SfdrAnswer
+answerSfdr s b =
+    given (judged (length s) b) (record { outcome = TooLong; quotient = S.Ratio zero32 }) (record { outcome = Done; quotient = S.UnusableBin })
+    (record { outcome = Done; quotient = sfdrOf s b })
