@@ -7,7 +7,5 @@ pub mod port_c;
 pub mod power_c;
 pub mod samples_c;
 pub mod spectrum_c;
-pub mod power_c;
 pub mod quality_c;
-pub mod samples_c;
 pub mod timing_c;
