@@ -1,0 +1,3 @@
+-- Laws that the proofs cite. Assumes nothing.
+mod Whole
+mod Ends

@@ -1,0 +1,44 @@
+-- Records put together from what the calls give. Assumes nothing.
+use mathlib.Core.Path.{_≡_, ap}
+use mathlib.Core.List.{List}
+use Prim.Native.Nat.{ℕ}
+use lib.Ieee.{Float, binary32, mul}
+use Rattle.laws.specs.Literals.{zero32, one32}
+use Rattle.number.specs.Number.{abs}
+use Rattle.answers.specs.declared.Outcome.{Outcome}
+use Rattle.answers.specs.declared.Outcome.the-variants.{Done}
+use Rattle.answers.specs.Written.{Written, written}
+use Rattle.generator.specs.Sample.{generated}
+use Rattle.port.specs.declared.Port.{Port}
+use Rattle.port.specs.declared.Reading.{Reading}
+use Rattle.port.specs.declared.Reading.the-variants.{Number}
+use Rattle.port.specs.Fields.{put, number, reading, at-voltage, at-current, at-frequency, at-phase-angle, at-active-power, at-apparent-power, at-power-factor, at-displacement-pf}
+use Rattle.figures.specs.declared.TimeAnswer.{TimeAnswer}
+use Rattle.figures.specs.Figures.{answerOf}
+use Rattle.distortion.specs.Thd.{thdOf}
+use Rattle.signal.specs.declared.State.{State}
+use Rattle.signal.specs.State.{voltageOf, levelled, measured, asPort}
+use Rattle.signal.specs.Calls.{Left, left, answer, made, remade}
+
+pub measured-whole : (top : ℕ) (s : State) (xs : List Float) (a : TimeAnswer) (thd v : Float) (p : Port)
+    → a ≡ answerOf (s .shape .wave) (s .shape .amplitude) (s .shape .frequency) (s .figures) xs → thd ≡ thdOf top (s .shape .frequency) (s .thd) xs
+    → v ≡ voltageOf (s .shape .wave) (a .figures) → p ≡ levelled (s .port) v (a .figures .«crest_factor») thd
+    → _≡_ {A = State} (record { shape = s .shape; port = p; figures = a .figures; thd = thd }) (measured top s xs)
+unfolding measured
+measured-whole top s xs a thd v p ea et ev ep = rw (ep, ev, et, ea)
+
+pub made-whole : (top : ℕ) (s r : State) (xs ys : List Float) (o : Outcome) → written o ys ≡ generated (s .shape) xs → r ≡ measured top s ys → left (answer Done r) ys ≡ made top s xs
+unfolding made
+made-whole top s r xs ys o g e = let p : ys ≡ generated (s .shape) xs .places = ap (λ (w : Written Float). w .places) g in rw (e, p)
+
+pub remade-same : (top : ℕ) (e e′ n n′ : State) (xs : List Float) (l : Left) → e ≡ e′ → n ≡ n′ → l ≡ remade top e n xs → l ≡ remade top e′ n′ xs
+remade-same top e e′ n n′ xs l p q h = rw (← p, ← q) h
+
+pub port-whole : (s : State) (voltage current : Float) (frequency : Reading) (apparent : Float) (p1 p2 p3 p4 p5 p6 p7 p8 : Port)
+    → apparent ≡ abs (mul binary32 voltage current)
+    → p1 ≡ put (s .port) at-voltage (number voltage) → p2 ≡ put p1 at-current (number current) → p3 ≡ put p2 at-frequency (reading frequency)
+    → p4 ≡ put p3 at-phase-angle (reading (Number zero32)) → p5 ≡ put p4 at-active-power (number (mul binary32 voltage current))
+    → p6 ≡ put p5 at-apparent-power (reading (Number apparent)) → p7 ≡ put p6 at-power-factor (reading (Number one32)) → p8 ≡ put p7 at-displacement-pf (reading (Number one32))
+    → _≡_ {A = State} (record { shape = s .shape; port = p8; figures = s .figures; thd = s .thd }) (asPort s voltage current frequency)
+unfolding asPort
+port-whole s voltage current frequency apparent p1 p2 p3 p4 p5 p6 p7 p8 ea e1 e2 e3 e4 e5 e6 e7 e8 = rw (e8, e7, e6, e5, e4, e3, e2, e1, ea)

@@ -1,0 +1,3 @@
+-- What the contracts cite. Assumes nothing.
+pub mod State
+pub mod Calls

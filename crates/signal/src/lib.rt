@@ -1,0 +1,109 @@
+// A signal by value: its state goes in and comes back, and the caller's samples are lent beside it.
+mod parts;
+
+ghost use mathlib.Core.Path.{_≡_};
+ghost use Rattle.signal.specs.State.{metricsOf};
+ghost use Rattle.signal.specs.Calls.{left, highest, newOf, portOf, phaseSet, dutySet, resetOf};
+use answers::Outcome;
+use figures::TimeFigures;
+use generator::Shape;
+use generator::Wave;
+use port::Port;
+use port::Reading;
+
+// What a signal keeps, its samples apart.
+pub struct State {
+    pub shape: Shape,
+    pub port: Port,
+    pub figures: TimeFigures,
+    pub thd: f32,
+}
+
+// How a call ended, and the state.
+pub struct Answer {
+    pub outcome: Outcome,
+    pub state: State,
+}
+
+// The 19 figures and THD.
+pub struct Metrics {
+    pub figures: TimeFigures,
+    pub thd: f32,
+}
+
+// A signal of a wave: the samples are generated and measured.
+pub fn new(wave: Wave, amplitude: f32, frequency: f32, samples: &mut [f32]) -> Answer
+    ensures { λ r. ⌜ left r (now (samples .exit)) ≡ newOf highest wave amplitude frequency (now (samples .entry)) ⌝ }
+{
+    parts::remake(
+        parts::zero_state(),
+        parts::fresh(wave, amplitude, frequency),
+        samples,
+    )
+}
+
+// A signal as a port of this voltage and current; the frequency is a reading alone.
+pub fn new_power_port(voltage: f32, current: f32, frequency: Reading, samples: &mut [f32]) -> Answer
+    ensures { λ r. ⌜ left r (now (samples .exit)) ≡ portOf highest voltage current frequency (now (samples .entry)) ⌝ }
+{
+    let made = new(Wave::DC, voltage, 0.0, samples);
+    let outcome = made.outcome;
+    if answers::number_of(outcome) != 0 {
+        return made;
+    }
+    let state = made.state;
+    let next = parts::as_port(state, voltage, current, frequency);
+    Answer {
+        outcome: outcome,
+        state: next,
+    }
+}
+
+// Another phase, in degrees: the samples are generated and measured again.
+pub fn set_phase(state: State, phase: f32, samples: &mut [f32]) -> Answer
+    ensures { λ r. ⌜ left r (now (samples .exit)) ≡ phaseSet highest state phase (now (samples .entry)) ⌝ }
+{
+    parts::remake(state, parts::with_phase(state, phase), samples)
+}
+
+// Another duty cycle, held between 0 and 1: the samples are generated and measured again.
+pub fn set_duty_cycle(state: State, duty_cycle: f32, samples: &mut [f32]) -> Answer
+    ensures { λ r. ⌜ left r (now (samples .exit)) ≡ dutySet highest state «duty_cycle» (now (samples .entry)) ⌝ }
+{
+    parts::remake(state, parts::with_duty(state, duty_cycle), samples)
+}
+
+// Samples and all that is measured of them to zero.
+pub fn reset_waveform(state: State, samples: &mut [f32]) -> Answer
+    ensures { λ r. ⌜ left r (now (samples .exit)) ≡ resetOf state (now (samples .entry)) ⌝ }
+{
+    let n = samples.len();
+    if n > answers::LONGEST {
+        return Answer {
+            outcome: Outcome::TooLong,
+            state: state,
+        };
+    }
+    if !spectrum::parts::on_grid(n) {
+        return Answer {
+            outcome: Outcome::OffGrid,
+            state: state,
+        };
+    }
+    parts::clear(samples);
+    Answer {
+        outcome: Outcome::Done,
+        state: parts::silenced(state),
+    }
+}
+
+// The 19 figures and THD.
+pub fn get_metrics(state: State) -> Metrics
+    ensures { λ r. ⌜ r ≡ metricsOf state ⌝ }
+{
+    let figures = state.figures;
+    Metrics {
+        figures: figures,
+        thd: state.thd,
+    }
+}
