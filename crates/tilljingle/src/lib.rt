@@ -5,7 +5,7 @@ pub mod generator_c;
 pub mod number_c;
 pub mod port_c;
 pub mod power_c;
+pub mod quality_c;
 pub mod samples_c;
 pub mod spectrum_c;
-pub mod quality_c;
 pub mod timing_c;
