@@ -46,5 +46,13 @@ cat ../docs/src/src--src--signal--signal.rs.txt src/tail.rs > gen/signal.new
 cmp -s gen/signal.new gen/signal.rs || cp gen/signal.new gen/signal.rs
 rm gen/signal.new
 
+# the three decibel functions with the logarithm cut off: what they hand to it, as kind and ratio
+for name in snr sinad sfdr; do sed -n "/^pub fn compute_$name(/,/^}/p" ../docs/src/src--src--signal--signal.rs.txt; done |
+  sed -e 's/^pub fn compute_/pub fn cut_/' -e 's/-> f32 {/-> (u8, f64) {/' -e 's/return 0\.0;/return (2, 0.0);/' \
+    -e 's/(10\.0 \* libm::log10(\(.*\))) as f32/(0, \1)/' -e 's/20\.0 \* libm::log10f(\(.*\))/(0, (\1) as f64)/' \
+    -e 's/^        120\.0$/        (1, 0.0)/' > gen/cut.new
+cmp -s gen/cut.new gen/cut.rs || cp gen/cut.new gen/cut.rs
+rm gen/cut.new
+
 if [ -n "${here:-}" ]; then ./here.sh; else (cd .. && rt staticlib tilljingle); fi
 cargo build --release --offline

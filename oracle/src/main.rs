@@ -37,6 +37,9 @@ macro_rules! areas {
 areas! {
     number,
     power,
+    samples,
+    timing,
+    quality,
     spectrum,
     generator,
     port,
