@@ -5,3 +5,4 @@ pub mod Scratch
 pub mod PortCrossing
 pub mod FiguresCrossing
 pub mod QualityCrossing
+pub mod CaptureCrossing
