@@ -5,4 +5,3 @@ pub mod Scratch
 pub mod PortCrossing
 pub mod FiguresCrossing
 pub mod QualityCrossing
-pub mod CaptureCrossing
