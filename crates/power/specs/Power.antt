@@ -1,12 +1,12 @@
 -- What `compute_power` answers (01, item 4), operation by operation. Each operation on f32 (binary32) or f64 (binary64) is IEEE 754's: the exact result,
 -- rounded once to the nearest, ties to even (`lib.Ieee`). An f32 is an f64 as it stands. Definitions only.
-use Prim.Native.Nat.{ℕ, zero, suc, _≤_, _<_}
-use mathlib.Core.Bool.{cond, not}
+use Prim.Native.Nat.{ℕ, zero, suc}
+use mathlib.Core.Bool.{cond}
 use mathlib.Core.List.{List}
-use lib.Dec.{T, eqb}
+use lib.Dec.{eqb}
 use lib.ListN.{length, getD}
 use lib.IntN.{pos}
-use lib.Ieee.{Float, nan, binary32, binary64, add, sub, mul, div, lt, ofInt, ofBits, isNan}
+use lib.Ieee.{Float, nan, binary32, binary64, add, sub, mul, div, lt, ofInt, ofBits}
 use Rattle.number.specs.Number.{narrow, root}
 use Rattle.answers.specs.declared.Outcome.{Outcome}
 use Rattle.answers.specs.declared.Outcome.the-variants.{Done, LengthsDiffer, TooLong}
@@ -25,10 +25,6 @@ sumTo x y (suc k) = add binary64 (sumTo x y k) (mul binary64 (getD x k nan) (get
 -- the three sums of a capture
 abbrev pub sumsTo : List Float → List Float → ℕ → Sums
 sumsTo v i k = record { vi = sumTo v i k; vv = sumTo v v k; ii = sumTo i i k; count = k }
-
--- the samples at the places from a up to b are numbers
-abbrev pub NumbersIn : List Float → List Float → ℕ → ℕ → Type 0
-NumbersIn v i a b = (k : ℕ) → a ≤ k → k < b → T (not (isNan (getD v k nan))) × T (not (isNan (getD i k nan)))
 
 -- ---- the record
 

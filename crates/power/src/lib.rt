@@ -1,12 +1,9 @@
 // Active, reactive and apparent power, and the power factor, of a voltage and a current that were sampled together.
 // The contract cites `specs/Power.antt`.
 ghost use mathlib.Core.Path.{_≡_};
-ghost use Prim.Native.Nat.{_+_, _≤_};
-ghost use mathlib.Core.Bool.{true, not};
-ghost use lib.Dec.{T};
-ghost use lib.Ieee.{isNan};
+ghost use Prim.Native.Nat.{_≤_};
 ghost use lib.ListN.{length};
-ghost use Rattle.power.specs.Power.{sumsTo, NumbersIn, answerOf};
+ghost use Rattle.power.specs.Power.{sumsTo, answerOf};
 use answers::LONGEST;
 use answers::Outcome;
 use parts::Sums;
@@ -36,74 +33,47 @@ pub struct PowerAnswer {
     pub power: Power,
 }
 
-// Whether no sample so far is a NaN, with one pair more.
-fn still_numbers(so_far: bool, x: f32, y: f32) -> bool
-    ensures { λ r. ⌜ (r ≡ true → («so_far» ≡ true) × T (not (isNan x)) × T (not (isNan y))) ⌝ }
+// The sums over the pairs before the first that holds a NaN: each sample here is a number, so that widening it needs no choice.
+fn sums_of_numbers(voltage: &[f32], current: &[f32]) -> Sums
+    requires { ⌜ length (now voltage) ≡ length (now current) ⌝ }
+    ensures { λ r. ⌜ r ≡ sumsTo (now (voltage .entry)) (now (current .entry)) (r .count) ⌝ ∗ ⌜ r .count ≤ length (now (voltage .entry)) ⌝ }
 {
-    if x != x {
-        return false;
-    }
-    if y != y {
-        return false;
-    }
-    so_far
-}
-
-// Whether the four pairs from this place on are numbers. Where they are, widening them needs no test of its own.
-fn four_numbers(voltage: &[f32], current: &[f32], from: usize) -> bool
-    requires { ⌜ length (now voltage) ≡ length (now current) ⌝ ∗ ⌜ from + 4 ≤ length (now voltage) ⌝ }
-    ensures { λ r. ⌜ (r ≡ true → NumbersIn (now (voltage .entry)) (now (current .entry)) from (from + 4)) ⌝ }
-{
-    let mut so_far = true;
-    let mut k = from;
-    while k < from + 4 {
-        so_far = still_numbers(so_far, voltage[k], current[k]);
-        k += 1;
-    }
-    so_far
-}
-
-// The sums with the next four pairs, which are numbers.
-fn add_four(voltage: &[f32], current: &[f32], t: Sums) -> Sums
-    requires { ⌜ length (now voltage) ≡ length (now current) ⌝ ∗ ⌜ t .count + 4 ≤ length (now voltage) ⌝ ∗ ⌜ t ≡ sumsTo (now voltage) (now current) (t .count) ⌝ ∗ ⌜ NumbersIn (now voltage) (now current) (t .count) (t .count + 4) ⌝ }
-    ensures { λ r. ⌜ r ≡ sumsTo (now (voltage .entry)) (now (current .entry)) (t .count + 4) ⌝ }
-{
-    let end = t.count + 4;
-    let mut vi = t.vi;
-    let mut vv = t.vv;
-    let mut ii = t.ii;
-    let mut k = t.count;
-    while k < end {
-        let v = voltage[k] as f64;
-        let i = current[k] as f64;
+    let mut vi: f64 = 0.0;
+    let mut vv: f64 = 0.0;
+    let mut ii: f64 = 0.0;
+    let mut k = 0usize;
+    while k < voltage.len() {
+        let x = voltage[k];
+        let y = current[k];
+        if x != x {
+            return Sums {
+                vi,
+                vv,
+                ii,
+                count: k,
+            };
+        }
+        if y != y {
+            return Sums {
+                vi,
+                vv,
+                ii,
+                count: k,
+            };
+        }
+        let v = x as f64;
+        let i = y as f64;
         vi = vi + v * i;
         vv = vv + v * v;
         ii = ii + i * i;
         k += 1;
     }
-    Sums { vi, vv, ii, count: k }
-}
-
-// The sums over the pairs before the first NaN, four at a time: fewer than four are left over, or a NaN is among the next four.
-fn sums_of_numbers(voltage: &[f32], current: &[f32]) -> Sums
-    requires { ⌜ length (now voltage) ≡ length (now current) ⌝ }
-    ensures { λ r. ⌜ r ≡ sumsTo (now (voltage .entry)) (now (current .entry)) (r .count) ⌝ ∗ ⌜ r .count ≤ length (now (voltage .entry)) ⌝ }
-{
-    let mut t = Sums {
-        vi: 0.0,
-        vv: 0.0,
-        ii: 0.0,
-        count: 0,
-    };
-    let mut k = 0usize;
-    while 4 <= voltage.len() - k {
-        if !four_numbers(voltage, current, k) {
-            return t;
-        }
-        t = add_four(voltage, current, t);
-        k += 4;
+    Sums {
+        vi,
+        vv,
+        ii,
+        count: k,
     }
-    t
 }
 
 // Those sums, carried on to the end.
