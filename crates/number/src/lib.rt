@@ -51,32 +51,32 @@ pub fn narrow(x: f64) -> f32
     f32::from_bits((((bits >> 63) << 31) | fields) as u32)
 }
 
-// All ones where t is at most y, else 0, without a branch, which would be guessed wrong half of the time. (Of a `bool` the compiler makes one.)
-fn mask_le(t: u64, y: u64) -> u64
-    requires { ⌜ t < 2 ^ 63 ⌝ ∗ ⌜ y < 2 ^ 63 ⌝ }
-    ensures { λ r. ⌜ r ≡ cond (leb t y) (2 ^ 64 - 1) 0 ⌝ }
+// a where the test holds, and b elsewhere: a choice of two numbers that are both there, so that no branch is needed, which would be guessed
+// wrong half of the time.
+fn select(test: bool, a: u64, b: u64) -> u64
+    ensures { λ r. ⌜ r ≡ cond test a b ⌝ }
 {
-    std::num::wrapping_sub_u64(0, (y + 0x8000_0000_0000_0000 - t) >> 63)
+    if test { a } else { b }
 }
 
 // The whole part of the root of m * 2^(p + 1), which has p + 1 digits, one a turn, from the highest down.
-// q is the root so far, a multiple of w, and y is twice what its square leaves, in units of w.
+// r is twice the root so far, which is a multiple of w, and y is twice what its square leaves, in units of w.
 fn root_digits(m: u64, p: u64) -> u64
     requires { ⌜ m < 2 ^ (p + 1) ⌝ ∗ ⌜ p ≤ 53 ⌝ }
     ensures { λ r. ⌜ r ≡ Number.wholeRoot (m * 2 ^ (p + 1)) ⌝ }
 {
-    let mut q: u64 = 0;
+    let mut r: u64 = 0;
     let mut y: u64 = m + m;
     let mut w: u64 = 1 << (p + 1);
     while 1 < w {
         w = w >> 1;
-        let t: u64 = q + q + w;
-        let mask: u64 = mask_le(t, y);
-        let z: u64 = y - (t & mask);
+        let t: u64 = r + w;
+        let fits: bool = t <= y;
+        let z: u64 = y - select(fits, t, 0);
         y = z + z;
-        q = q + (w & mask);
+        r = select(fits, t + w, r);
     }
-    q
+    r >> 1
 }
 
 // The bit pattern of the root of m * 2^(p + 1 + g), for an m of p digits: the root's p + 1 digits rounded to p, beside half of g.
