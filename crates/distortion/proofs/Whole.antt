@@ -2,16 +2,17 @@
 use mathlib.Core.Path.{_≡_}
 use mathlib.Core.Bool.{true, false}
 use mathlib.Core.List.{List}
-use Prim.Native.Nat.{ℕ, _-_, _/_}
+use Prim.Native.Nat.{ℕ, _/_}
 use lib.ListN.{length}
 use lib.Ieee.{Float, binary32, binary64, mul, div, lt}
+use Rattle.laws.specs.Harmonics.{powerOf, lastUpTo}
 use Rattle.number.specs.Number.{narrow, root}
 use Rattle.spectrum.specs.Bin.{magnitudeOf}
-use Rattle.distortion.specs.Thd.{binOf, usable, lastOrder, powerOf, tiny, hundred, thdFrom, thdAt, thdOf}
+use Rattle.distortion.specs.Thd.{binOf, usable, tiny, hundred, thdFrom, thdAt, thdOf}
 
 module _ (top : ℕ) (earlier : Float) (xs : List Float) where
   -- the fundamental is heard, or silent
-  pub heard : (bin last : ℕ) (f p r w : Float) → f ≡ magnitudeOf xs bin → lt tiny f ≡ true → last ≡ lastOrder top (length xs / 2) bin → p ≡ powerOf xs bin (last - 1)
+  pub heard : (bin last : ℕ) (f p r w : Float) → f ≡ magnitudeOf xs bin → lt tiny f ≡ true → last ≡ lastUpTo top (length xs / 2) bin → p ≡ powerOf (magnitudeOf xs) bin 2 last
       → r ≡ root binary64 p → w ≡ narrow r → mul binary32 (div binary32 w f) hundred ≡ thdAt top bin earlier xs
   unfolding thdAt thdFrom
   heard bin last f p r w ef t el ep er ew = rw (← ef, t, ew, er, ep, el)

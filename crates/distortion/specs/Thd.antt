@@ -1,11 +1,12 @@
 -- The THD that a signal keeps, over the highest order. Definitions only.
-use Prim.Native.Nat.{ℕ, zero, suc, _+_, _-_, _*_, _/_, min}
+use Prim.Native.Nat.{ℕ, _/_}
 use mathlib.Core.Bool.{Bool, cond, _&&_}
 use mathlib.Core.List.{List}
 use lib.Dec.{ltb}
 use lib.ListN.{length}
-use lib.Ieee.{Float, binary32, binary64, add, mul, div, lt, ofBits, toUnsigned}
-use Rattle.laws.specs.Literals.{zero32, zero64, count32}
+use lib.Ieee.{Float, binary32, binary64, mul, div, lt, ofBits, toUnsigned}
+use Rattle.laws.specs.Harmonics.{powerOf, lastUpTo}
+use Rattle.laws.specs.Literals.{zero32, count32}
 use Rattle.number.specs.Number.{narrow, root, roundAway}
 use Rattle.spectrum.specs.Bin.{magnitudeOf}
 
@@ -18,19 +19,6 @@ binOf frequency n = toUnsigned 64 (roundAway binary32 (div binary32 (mul binary3
 unfoldable pub usable : Float → ℕ → ℕ → Bool
 usable frequency half bin = ltb 1 half && (lt zero32 frequency && (ltb 0 bin && ltb bin half))
 
--- 01, "THD in `Signal` uses orders up to 16 and bins below half": the last order h, of at most `top`, with bin * h below half
-unfoldable pub lastOrder : ℕ → ℕ → ℕ → ℕ
-lastOrder top half bin = min top ((half - 1) / bin)
-
--- 01, "Sums are f64, in index order": one harmonic more, its magnitude an f32
-unfoldable pub withSquare : Float → Float → Float
-withSquare sum m = add binary64 sum (mul binary64 m m)
-
--- the power of k harmonics, from order 2 on
-unfoldable pub powerOf : List Float → ℕ → ℕ → Float
-powerOf xs bin zero = zero64
-powerOf xs bin (suc k) = withSquare (powerOf xs bin k) (magnitudeOf xs (bin * (k + 2)))
-
 -- the f32 nearest to 1e-12, and 100
 abbrev pub tiny : Float
 tiny = ofBits binary32 0x2B8CBCCC
@@ -42,8 +30,9 @@ hundred = ofBits binary32 0x42C80000
 unfoldable pub thdFrom : Float → Float → Float → Float
 thdFrom fundamental power earlier = cond (lt tiny fundamental) (mul binary32 (div binary32 (narrow (root binary64 power)) fundamental) hundred) earlier
 
+-- 01, "THD in `Signal` uses orders up to 16 and bins below half": the harmonics from order 2 on
 unfoldable pub thdAt : ℕ → ℕ → Float → List Float → Float
-thdAt top bin earlier xs = thdFrom (magnitudeOf xs bin) (powerOf xs bin (lastOrder top (length xs / 2) bin - 1)) earlier
+thdAt top bin earlier xs = thdFrom (magnitudeOf xs bin) (powerOf (magnitudeOf xs) bin 2 (lastUpTo top (length xs / 2) bin)) earlier
 
 unfoldable pub thdOf : ℕ → Float → Float → List Float → Float
 thdOf top frequency earlier xs =

@@ -1,9 +1,12 @@
 // The harmonics' power, and THD at a bin. Each bin is worked out by itself, and none that is not needed.
 ghost use mathlib.Core.Path.{_≡_};
 ghost use mathlib.Core.Bool.{true};
-ghost use Prim.Native.Nat.{_-_, _*_, _/_, _<_, _≤_};
+ghost use Prim.Native.Nat.{_*_, _/_, _<_, _≤_};
 ghost use lib.ListN.{length};
+ghost use lib.Ieee.{binary64, add};
+ghost use Rattle.laws.specs.Harmonics.{squareOf, powerOf, lastUpTo};
 ghost use Rattle.quarter.specs.Table.{quarterTable};
+ghost use Rattle.spectrum.specs.Bin.{magnitudeOf};
 ghost use Rattle.spectrum.specs.Grid.{onGrid};
 ghost use Rattle.distortion.specs.Thd as Thd;
 
@@ -11,7 +14,7 @@ ghost use Rattle.distortion.specs.Thd as Thd;
 fn last_order(top: usize, half: usize, bin: usize) -> usize
     requires { ⌜ 0 < bin ⌝ }
     requires { ⌜ bin < half ⌝ }
-    ensures { λ r. ⌜ r ≡ Thd.lastOrder top half bin ⌝ }
+    ensures { λ r. ⌜ r ≡ lastUpTo top half bin ⌝ }
 {
     let inside = (half - 1) / bin;
     if top < inside { top } else { inside }
@@ -19,7 +22,7 @@ fn last_order(top: usize, half: usize, bin: usize) -> usize
 
 // One harmonic more.
 fn with_square(sum: f64, magnitude: f32) -> f64
-    ensures { λ r. ⌜ r ≡ Thd.withSquare sum magnitude ⌝ }
+    ensures { λ r. ⌜ r ≡ add binary64 sum (squareOf magnitude) ⌝ }
 {
     let m = std::num::f32_to_f64_with_nan(magnitude);
     sum + m * m
@@ -31,7 +34,7 @@ fn harmonic_power(table: &[u32; 1025], samples: &[f32], bin: usize, last: usize)
     requires { ⌜ onGrid (length (now samples)) ≡ true ⌝ }
     requires { ⌜ bin * last < length (now samples) ⌝ }
     requires { ⌜ (1 ≤ last) × (last ≤ 65536) ⌝ }
-    ensures { λ r. ⌜ r ≡ Thd.powerOf (now (samples .entry)) bin (last - 1) ⌝ }
+    ensures { λ r. ⌜ r ≡ powerOf (magnitudeOf (now (samples .entry))) bin 2 last ⌝ }
 {
     let mut sum = 0.0;
     let mut order: usize = 2;

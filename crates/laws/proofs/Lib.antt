@@ -12,3 +12,4 @@ pub mod Numbers
 pub mod Filling
 pub mod Tested
 pub mod Stores
+pub mod Harmonics

@@ -5,3 +5,4 @@ pub mod Samples
 pub mod Filled
 pub mod Front
 pub mod Literals
+pub mod Harmonics

@@ -8,6 +8,7 @@ use lib.Ieee.{Float, nan, binary32, binary64, sub, mul, div, lt, ofBits}
 use Rattle.answers.specs.declared.Measured.{Measured}
 use Rattle.answers.specs.declared.Outcome.the-variants.{Done, TooLong}
 use Rattle.answers.specs.Numbers.{tooLong}
+use Rattle.laws.specs.Harmonics.{squareOf}
 use Rattle.laws.specs.Literals.{zero32, zero64}
 use Rattle.laws.specs.Samples.{higher}
 use Rattle.laws.specs.Walks.{pairs}
@@ -19,7 +20,7 @@ use Rattle.quality.specs.declared.Sfdr.the-variants as S
 use Rattle.quality.specs.declared.SfdrAnswer.{SfdrAnswer}
 use Rattle.quality.specs.declared.Verdict.{Verdict}
 use Rattle.quality.specs.declared.Verdict.the-variants.{Refused, Unusable, Usable}
-use Rattle.quality.specs.Powers.{squareOf, powerOf}
+use Rattle.quality.specs.Powers.{powerIn}
 
 -- ---- which answer is given: 01, row 3, for more than 65,536 places; then "a bin of 0 or past the end is unusable"
 unfoldable pub judged : ℕ → ℕ → Verdict
@@ -38,7 +39,7 @@ tiny = ofBits binary32 0x2B8CBCCC
 -- `compute_thd_from_spectrum` "sums every multiple of the fundamental", from order 2 on
 unfoldable pub thdOf : List Float → ℕ → Float
 thdOf s b =
-    cond (lt (getD s b nan) tiny) zero32 (mul binary32 (div binary32 (narrow (root binary64 (powerOf s b 2))) (getD s b nan)) (ofBits binary32 0x42C80000))
+    cond (lt (getD s b nan) tiny) zero32 (mul binary32 (div binary32 (narrow (root binary64 (powerIn s b 2))) (getD s b nan)) (ofBits binary32 0x42C80000))
 
 -- "a THD of 0.0 for a fundamental bin of 0 or past the end"
 unfoldable pub answerThd : List Float → ℕ → Measured
@@ -57,14 +58,14 @@ abbrev pub ownOf : List Float → ℕ → Float
 ownOf s b = squareOf (getD s b nan)
 
 abbrev pub totalOf : List Float → Float
-totalOf s = powerOf s 1 1
+totalOf s = powerIn s 1 1
 
 -- noise that is not above 0 counts as the f64 1e-30
 unfoldable pub overNoise : Float → Float → Float
 overNoise own noise = div binary64 own (cond (lt zero64 noise) noise (ofBits binary64 0x39B4484BFEEBC2A0))
 
 unfoldable pub snrOf : List Float → ℕ → Float
-snrOf s b = overNoise (ownOf s b) (sub binary64 (sub binary64 (totalOf s) (ownOf s b)) (powerOf s b 2))
+snrOf s b = overNoise (ownOf s b) (sub binary64 (sub binary64 (totalOf s) (ownOf s b)) (powerIn s b 2))
 
 unfoldable pub sinadOf : List Float → ℕ → Float
 sinadOf s b = overNoise (ownOf s b) (sub binary64 (totalOf s) (ownOf s b))

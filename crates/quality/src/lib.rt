@@ -1,7 +1,8 @@
 // Distortion, and the quotients behind the signal-to-noise figures, of a magnitude spectrum whose place 0 is the constant part.
 ghost use mathlib.Core.Path.{_≡_};
 ghost use lib.ListN.{length};
-ghost use Rattle.quality.specs.Powers.{squareOf, powerOf, Inside, Summed};
+ghost use Rattle.laws.specs.Harmonics.{squareOf};
+ghost use Rattle.quality.specs.Powers.{powerIn, Inside, Summed};
 ghost use Rattle.quality.specs.Quality.{judged, thdOf, answerThd, enobOf, overNoise, snrOf, sinadOf, answerQuotient, spurAt, spurOf, sfdrOf, answerSfdr};
 use answers::LONGEST;
 use answers::Measured;
@@ -124,7 +125,7 @@ fn power_of_numbers(spectrum: &[f32], bin: usize, first: usize) -> Tally
 // The power of all multiples of the bin inside the spectrum, from this order on.
 fn power(spectrum: &[f32], bin: usize, first: usize) -> f64
     requires { ⌜ Inside (length (now spectrum)) bin first ⌝ }
-    ensures { λ r. ⌜ r ≡ powerOf (now (spectrum .entry)) bin first ⌝ }
+    ensures { λ r. ⌜ r ≡ powerIn (now (spectrum .entry)) bin first ⌝ }
 {
     let start = power_of_numbers(spectrum, bin, first);
     let mut sum = start.sum;

@@ -8,8 +8,9 @@ use denote.Ref.{now}
 use lib.ListN.{length, getD}
 use lib.Ieee.{nan, binary64, fits, isNan}
 use lib.Ieee.Fits.{and-i, fits-widens}
+use Rattle.laws.specs.Harmonics.{squareOf}
 use Rattle.laws.proofs.Numbers.{no-nan}
-use Rattle.quality.specs.Powers.{squareOf, Summed}
+use Rattle.quality.specs.Powers.{Summed}
 use Rattle.quality.proofs.Orders.{multiple, order-le, summed-none, summed-next}
 use Rattle.quality.proofs.power_of_numbers.Statement.{statement}
 use Rattle.quality.proofs.power_of_numbers.Tie as tie

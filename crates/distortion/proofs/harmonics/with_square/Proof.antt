@@ -1,6 +1,6 @@
 -- `distortion::harmonics::with_square` meets its contract: an f32 is widened exactly. Assumes nothing.
 use borrow.Author.Needs.{needs}
-use Rattle.distortion.specs.Thd.{withSquare}
+use Rattle.laws.specs.Harmonics.{squareOf}
 use Rattle.distortion.proofs.harmonics.with_square.Statement.{statement}
 use Rattle.distortion.proofs.harmonics.with_square.Tie as tie
 
@@ -8,7 +8,7 @@ f32-to-f64-with-nan-requires : tie.Need-f32-to-f64-with-nan-requires
 f32-to-f64-with-nan-requires c κs = search needs
 
 returns : tie.Need-returns
-unfolding withSquare
+unfolding squareOf
 returns c = rw (c .f32-to-f64-with-nan .ensures)
 
 pub with-square-spec : {M : Type 1} → statement M
