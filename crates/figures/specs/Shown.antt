@@ -1,8 +1,8 @@
--- Examples, computed from the definitions: 01's of rise time; whole records against the bits that the Rust gives when it is run; where the record's RMS differs from that of power. Assumes nothing.
+-- Examples, computed from the definitions: whole records against the bits that the Rust gives when it is run; where the record's RMS differs from that of power. Assumes nothing.
 use Prim.Native.Nat.{ℕ}
 use mathlib.Core.Path.{_≡_, refl}
 use mathlib.Core.Bool.{true, false}
-use mathlib.Core.List.{List, [], _∷_, _++_, map}
+use mathlib.Core.List.{List, [], _∷_, map}
 use lib.ListN.{length}
 use lib.Ieee.{Float, nan, inf, binary32, binary64, add, sub, mul, div, neg, lt, le, ofInt, ofBits}
 use Rattle.generator.specs.declared.Wave.{Wave}
@@ -15,29 +15,9 @@ use Rattle.timing.specs.Timing.{totalOf, meanOf, risesAt, firstOf, crossingAt, 
 use Rattle.figures.specs.declared.TimeFigures.{TimeFigures}
 use Rattle.figures.specs.Levels.{maxOf, minOf, square, sumOf, averageOf, rectifiedOf, dcRmsOf, acRmsOf}
 use Rattle.figures.specs.Duty.{near, highsOf, dutyOf}
-use Rattle.figures.specs.Edges.{riseBegins, riseCounts, fallBegins, fallCounts, edgeAt, edgesOf, lowThreshold, highThreshold, sampleTimeOf, timesOf}
+use Rattle.figures.specs.Edges.{riseBegins, riseCounts, fallBegins, fallCounts, edgeAt, edgesOf, sampleTimeOf, timesOf}
 use Rattle.figures.specs.Ratios.{ratioOf, crestOf, periodOf, excessOf}
-use Rattle.figures.specs.Figures.{peakToPeakOf, figuresOf}
-
--- ---- 01: "Samples 0 to 10 rise in 8 samples. With one more 0 after them, 9."
-
--- how many samples the last rise of a capture has
-abbrev pub riseSamples : List Float → ℕ
-riseSamples xs = edgesOf (lowThreshold (minOf xs) (peakToPeakOf xs)) (highThreshold (minOf xs) (peakToPeakOf xs)) xs .rise
-
-pub record Rise : Type 0 where
-  pub samples : List Float
-  pub rise : ℕ
-
-abbrev ramp : List Float
-ramp = map count32 (0 ∷ 1 ∷ 2 ∷ 3 ∷ 4 ∷ 5 ∷ 6 ∷ 7 ∷ 8 ∷ 9 ∷ 10 ∷ [])
-
-abbrev pub starred : List Rise
-starred = record { samples = ramp; rise = 8 } ∷ record { samples = ramp ++ (count32 0 ∷ []); rise = 9 } ∷ []
-
-pub starred-hold : map (λ (e : Rise). riseSamples (e .samples)) starred ≡ map (λ (e : Rise). e .rise) starred
-unfolding over pairs higher lower maxOf minOf riseBegins riseCounts fallBegins fallCounts edgeAt edgesOf add sub mul neg lt le ofInt ofBits
-starred-hold = refl
+use Rattle.figures.specs.Figures.{figuresOf}
 
 -- ---- whole records
 

@@ -1,3 +1,2 @@
 -- What the contracts of `power` cite, and examples of it. Assumes nothing.
 pub mod Power
-pub mod Examples

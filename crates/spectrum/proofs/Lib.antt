@@ -4,6 +4,5 @@ pub mod Angle
 pub mod Turns
 pub mod Ends
 pub mod SameFigures
-pub mod Starred
 pub mod Examples
 pub mod Running

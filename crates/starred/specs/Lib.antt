@@ -1,0 +1,2 @@
+-- 01's starred examples. Assumes nothing.
+pub mod Starred
