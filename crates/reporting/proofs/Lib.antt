@@ -1,0 +1,5 @@
+pub mod Decimal
+pub mod Stored
+pub mod Texts
+pub mod Codes
+pub mod Whole

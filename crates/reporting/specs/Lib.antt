@@ -1,0 +1,4 @@
+-- What the contracts cite. Assumes nothing.
+pub mod Put
+pub mod Text
+pub mod Report
