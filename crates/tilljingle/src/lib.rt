@@ -7,5 +7,6 @@ pub mod port_c;
 pub mod power_c;
 pub mod quality_c;
 pub mod samples_c;
+pub mod signal_c;
 pub mod spectrum_c;
 pub mod timing_c;
