@@ -6,3 +6,4 @@ pub mod PortCrossing
 pub mod SignalCrossing
 pub mod FiguresCrossing
 pub mod QualityCrossing
+pub mod CaptureCrossing
