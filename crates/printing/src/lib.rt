@@ -1,0 +1,11 @@
+// What `reporting` makes of an input, on standard output. No contract can say what a call of C writes: the gate runs it.
+use libc::STDOUT_FILENO;
+
+pub fn print_report(input: &[u8]) {
+    let mut text = [0u8; 80];
+    let answer = reporting::report_text(input, &mut text);
+    let n = answer.bytes;
+    if !io::write_all(STDOUT_FILENO, &text[..n]) {
+        os::fail(b"write");
+    }
+}
