@@ -2,12 +2,17 @@
 //!
 //!     oracle compare [AREA..] [ROUNDS]    every answer compared; the last line counts calls and differences
 //!     oracle bench [AREA..]               both measured; one Markdown table
+//!     oracle fuzz MINUTES [SEED]          mutated captures for so long
 //!
 //! An area is one file with `ROUNDS`, `compare` and `bench`, and one line below.
 
 mod common;
+mod fuzz;
+mod lines;
+mod mutate;
 #[path = "../gen/signal.rs"]
 mod signal;
+mod wall;
 
 use common::{Log, Table};
 use std::process::ExitCode;
@@ -44,12 +49,13 @@ areas! {
     generator,
     port,
     figures,
+    capture,
 }
 
 fn usage() -> ExitCode {
     let names: Vec<_> = AREAS.iter().map(|area| area.name).collect();
     eprintln!(
-        "oracle compare [AREA..] [ROUNDS] | oracle bench [AREA..]; areas: {}",
+        "oracle compare [AREA..] [ROUNDS] | oracle bench [AREA..] | oracle fuzz MINUTES [SEED]; areas: {}",
         names.join(" ")
     );
     ExitCode::from(2)
@@ -78,6 +84,11 @@ fn compare(areas: &[&Area], rounds: Option<u64>) -> ExitCode {
         (area.compare)(rounds.unwrap_or(area.rounds), &mut log);
         log.close(area.name);
     }
+    ended(&log)
+}
+
+/// Counts everything; any difference is a failure.
+fn ended(log: &Log) -> ExitCode {
     println!("{} calls, {} differences", log.calls(), log.differences());
     ExitCode::from((log.differences() > 0) as u8)
 }
@@ -90,10 +101,23 @@ fn bench(areas: &[&Area]) -> ExitCode {
     ExitCode::SUCCESS
 }
 
+fn fuzz(words: &[String]) -> ExitCode {
+    let numbers: Option<Vec<u64>> = words.iter().map(|word| word.parse().ok()).collect();
+    let mut log = Log::new();
+    match numbers.as_deref() {
+        Some([minutes]) => fuzz::fuzz(*minutes, 1, &mut log),
+        Some([minutes, seed]) => fuzz::fuzz(*minutes, *seed, &mut log),
+        _ => return usage(),
+    }
+    log.close("fuzz");
+    ended(&log)
+}
+
 fn main() -> ExitCode {
     let words: Vec<String> = std::env::args().skip(1).collect();
     let chosen = words.get(1..).and_then(selected);
     match (words.first().map(String::as_str), chosen) {
+        (Some("fuzz"), _) => fuzz(&words[1..]),
         (Some("compare"), Some((areas, rounds))) => compare(&areas, rounds),
         (Some("bench"), Some((areas, None))) => bench(&areas),
         _ => usage(),
