@@ -50,6 +50,7 @@ areas! {
     port,
     figures,
     capture,
+    signals,
 }
 
 fn usage() -> ExitCode {
