@@ -12,6 +12,7 @@ elif [ "$(uname -m)" != x86_64 ]; then
   export PATH="/usr/bin:$PATH" RUSTC=/usr/bin/rustc
   export CARGO_TARGET_X86_64_UNKNOWN_LINUX_GNU_LINKER=x86_64-linux-gnu-gcc
   export CARGO_TARGET_X86_64_UNKNOWN_LINUX_GNU_RUNNER="qemu-x86_64 -L /usr/x86_64-linux-gnu"
+  export TILLJINGLE_RUNNER=$CARGO_TARGET_X86_64_UNKNOWN_LINUX_GNU_RUNNER
   CARGO_ENCODED_RUSTFLAGS=$(printf '%s\037' --cap-lints allow --sysroot)$PWD/cross/usr
   export CARGO_ENCODED_RUSTFLAGS
 fi

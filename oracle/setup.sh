@@ -1,5 +1,5 @@
 #!/usr/bin/env bash
-# Makes all that the comparisons need: Debian's libm, the published Rust with its tail, the proved static library, the program over both.
+# Makes all that the comparisons need: Debian's libm, the published Rust with its tail, the proved static library, the report program, the program over them.
 # Only packages that are absent are installed; nothing else is fetched.
 set -euo pipefail
 cd "$(dirname "$0")"
@@ -54,5 +54,5 @@ for name in snr sinad sfdr; do sed -n "/^pub fn compute_$name(/,/^}/p" ../docs/s
 cmp -s gen/cut.new gen/cut.rs || cp gen/cut.new gen/cut.rs
 rm gen/cut.new
 
-if [ -n "${here:-}" ]; then ./here.sh; else (cd .. && rt staticlib tilljingle); fi
+if [ -n "${here:-}" ]; then ./here.sh; else (cd .. && rt staticlib tilljingle && rt check report); fi
 cargo build --release --offline

@@ -51,6 +51,7 @@ areas! {
     figures,
     capture,
     signals,
+    report,
 }
 
 fn usage() -> ExitCode {
