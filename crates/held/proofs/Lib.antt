@@ -1,4 +1,7 @@
 -- The walks. Assumes nothing.
 pub mod Again
 pub mod ByValue
+pub mod Lent
 pub mod Step
+pub mod Bare
+pub mod Made
