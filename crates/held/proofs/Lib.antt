@@ -5,3 +5,5 @@ pub mod Lent
 pub mod Step
 pub mod Bare
 pub mod Made
+pub mod PortIn
+pub mod PortStep

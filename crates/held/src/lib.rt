@@ -1,7 +1,9 @@
 // A signal that keeps the caller's samples beside what it answered last. Each function takes the signal apart and calls the covered one by value.
 ghost use mathlib.Core.Path.{_≡_};
 ghost use Rattle.signal.specs.Calls.{highest, newOf, portOf, phaseSet, dutySet, resetOf};
-ghost use Rattle.held.specs.Held.{beside, after};
+ghost use Rattle.port.specs.Fields.{number};
+ghost use Rattle.port.specs.Fields as Fields;
+ghost use Rattle.held.specs.Held.{beside, after, withField};
 use generator::Wave;
 use port::Reading;
 use signal::Answer;
@@ -64,5 +66,13 @@ impl<'a> Signal<'a> {
         let state = self.answer.state;
         let next = signal::reset_waveform(state, &mut *self.samples);
         self.answer = next;
+    }
+
+    pub fn set_voltage(&mut self, voltage: f32)
+        ensures { λ _. ⌜ now (self .exit) ≡ withField (now (self .entry)) Fields.at-voltage (number voltage) ⌝ }
+    {
+        let port = self.answer.state.port;
+        let next = port.set_voltage(voltage);
+        self.answer.state.port = next;
     }
 }
