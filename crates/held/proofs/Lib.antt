@@ -7,3 +7,5 @@ pub mod Bare
 pub mod Made
 pub mod PortIn
 pub mod PortStep
+pub mod Inside
+pub mod Read

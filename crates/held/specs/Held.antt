@@ -28,3 +28,12 @@ withPort s p = record { samples = s .samples; answer = swapped (s .answer) p }
 -- the port with the field at i set to x
 abbrev pub withField : Signal → ℕ → Cell → Signal
 withField s i x = withPort s (put (s .answer .state .port) i x)
+
+-- ---- what a reading leaves behind: what it answers, and the signal
+
+pub record Seen (A : Type 0) : Type 0 where
+  pub value : A
+  pub signal : Signal
+
+abbrev pub seen : {A : Type 0} → A → Signal → Seen A
+seen x s = record { value = x; signal = s }

@@ -1,12 +1,14 @@
 // A signal that keeps the caller's samples beside what it answered last. Each function takes the signal apart and calls the covered one by value.
 ghost use mathlib.Core.Path.{_≡_};
+ghost use Rattle.signal.specs.State.{metricsOf};
 ghost use Rattle.signal.specs.Calls.{highest, newOf, portOf, phaseSet, dutySet, resetOf};
 ghost use Rattle.port.specs.Fields.{number};
 ghost use Rattle.port.specs.Fields as Fields;
-ghost use Rattle.held.specs.Held.{beside, after, withField};
+ghost use Rattle.held.specs.Held.{beside, after, withField, seen};
 use generator::Wave;
 use port::Reading;
 use signal::Answer;
+use signal::Metrics;
 
 // The caller's samples, how the last call ended, and the state.
 pub struct Signal<'a> {
@@ -74,5 +76,19 @@ impl<'a> Signal<'a> {
         let port = self.answer.state.port;
         let next = port.set_voltage(voltage);
         self.answer.state.port = next;
+    }
+    // The 19 figures and THD.
+    pub fn get_metrics(&mut self) -> Metrics
+        ensures { λ r. ⌜ seen r (now (self .exit)) ≡ seen (metricsOf (now (self .entry) .answer .state)) (now (self .entry)) ⌝ }
+    {
+        let state = self.answer.state;
+        signal::get_metrics(state)
+    }
+
+    pub fn voltage(&mut self) -> f32
+        ensures { λ r. ⌜ seen r (now (self .exit)) ≡ seen (now (self .entry) .answer .state .port .voltage) (now (self .entry)) ⌝ }
+    {
+        let port = self.answer.state.port;
+        port.voltage()
     }
 }
