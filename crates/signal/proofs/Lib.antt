@@ -1,3 +1,5 @@
 -- Laws that the proofs cite. Assumes nothing.
 mod Whole
 mod Ends
+pub mod Sequence
+pub mod Shown
