@@ -1,10 +1,11 @@
 // What frequency and slew rate are made of; the time figures are made of it too.
 ghost use mathlib.Core.Path.{_≡_};
-ghost use Prim.Native.Nat.{_≤_, _<_};
+ghost use mathlib.Core.Bool.{cond};
+ghost use Prim.Native.Nat.{_+_, _≤_, _<_};
 ghost use lib.ListN.{length};
 ghost use Rattle.answers.specs.Numbers.{longest};
 ghost use Rattle.laws.specs.Literals.{count32};
-ghost use Rattle.timing.specs.Timing.{totalOf, meanOf, risesAt, firstOf, crossingAt, crossingsOf, frequencyFrom, frequencyAbout, slewAt, steepestOf, slewOf};
+ghost use Rattle.timing.specs.Timing.{totalOf, meanOf, risesAt, crossingsOf, frequencyFrom, frequencyAbout, slewAt, steepestOf, slewOf};
 
 // A count as an f32, exactly.
 pub fn counted(n: usize) -> f32
@@ -49,55 +50,61 @@ fn rises(mean: f32, prev: f32, curr: f32) -> bool
     prev - mean < 0.0 && curr - mean >= 0.0
 }
 
-// The place of the first crossing, where there is one at i.
-fn first_of(s: Crossings, i: usize) -> usize
-    ensures { λ r. ⌜ r ≡ firstOf s i ⌝ }
+// One more where the test holds.
+pub fn tallied(n: u32, holds: bool) -> u32
+    requires { ⌜ n < longest ⌝ }
+    ensures { λ r. ⌜ r ≡ cond holds (n + 1) n ⌝ }
 {
-    if s.count == 0 { i } else { s.first }
+    if holds { n + 1 } else { n }
 }
 
-// The crossings with the place i.
-fn crossed(mean: f32, s: Crossings, i: usize, prev: f32, curr: f32) -> Crossings
-    requires { ⌜ s .count < longest ⌝ }
-    ensures { λ r. ⌜ r ≡ crossingAt mean s i prev curr ⌝ }
-{
-    if rises(mean, prev, curr) {
-        Crossings {
-            count: s.count + 1,
-            first: first_of(s, i),
-            last: i,
-        }
-    } else {
-        s
-    }
-}
-
-// All rising crossings of this mean.
-fn find_crossings(samples: &[f32], mean: f32) -> Crossings
+// How many rising crossings of this mean there are. (The places are found apart: so the compiler takes four samples at a time here.)
+fn count_crossings(samples: &[f32], mean: f32) -> u32
     requires { ⌜ length (now samples) ≤ longest ⌝ }
-    ensures { λ r. ⌜ r ≡ crossingsOf mean (now (samples .entry)) ⌝ }
+    ensures { λ r. ⌜ r ≡ crossingsOf mean (now (samples .entry)) .count ⌝ }
 {
-    let mut s = Crossings {
-        count: 0,
-        first: 0,
-        last: 0,
-    };
+    let mut n = 0u32;
     let mut i = 1usize;
     while i < samples.len() {
-        s = crossed(mean, s, i, samples[i - 1], samples[i]);
+        n = tallied(n, rises(mean, samples[i - 1], samples[i]));
         i += 1;
     }
-    s
+    n
 }
 
-// Cycles a second, of these crossings.
+// The place of the first crossing, looked for from the front; 0 where there is none.
+fn first_crossing(samples: &[f32], mean: f32) -> usize
+    ensures { λ r. ⌜ r ≡ crossingsOf mean (now (samples .entry)) .first ⌝ }
+{
+    let mut i = 1usize;
+    while i < samples.len() {
+        if rises(mean, samples[i - 1], samples[i]) {
+            return i;
+        }
+        i += 1;
+    }
+    0
+}
+
+// The place of the last crossing, looked for from the end; 0 where there is none.
+fn last_crossing(samples: &[f32], mean: f32) -> usize
+    ensures { λ r. ⌜ r ≡ crossingsOf mean (now (samples .entry)) .last ⌝ }
+{
+    let mut i = samples.len();
+    while i > 1 {
+        i -= 1;
+        if rises(mean, samples[i - 1], samples[i]) {
+            return i;
+        }
+    }
+    0
+}
+
+// Cycles a second, of two crossings or more.
 fn frequency_from(s: Crossings, rate: f32) -> f32
-    requires { ⌜ (s .count ≤ longest) × (s .first ≤ s .last) × (s .last ≤ longest) ⌝ }
+    requires { ⌜ (2 ≤ s .count) × (s .count ≤ longest) × (s .first ≤ s .last) × (s .last ≤ longest) ⌝ }
     ensures { λ r. ⌜ r ≡ frequencyFrom s rate ⌝ }
 {
-    if s.count < 2 {
-        return 0.0;
-    }
     let cycles = counted(s.count - 1);
     let span = counted(s.last - s.first);
     cycles * rate / span
@@ -108,7 +115,18 @@ pub fn frequency(samples: &[f32], mean: f32, rate: f32) -> f32
     requires { ⌜ length (now samples) ≤ longest ⌝ }
     ensures { λ r. ⌜ r ≡ frequencyAbout mean (now (samples .entry)) rate ⌝ }
 {
-    frequency_from(find_crossings(samples, mean), rate)
+    let count = count_crossings(samples, mean);
+    if count < 2 {
+        return 0.0;
+    }
+    let first = first_crossing(samples, mean);
+    let last = last_crossing(samples, mean);
+    let s = Crossings {
+        count: count as usize,
+        first,
+        last,
+    };
+    frequency_from(s, rate)
 }
 
 // The larger of m and the slew rate from one sample to the next.

@@ -1,13 +1,9 @@
 -- `timing::parts::frequency_from` meets its contract. Assumes nothing.
-use borrow.Author.Tests.{lt-ltb, le-ltb}
-use Rattle.timing.specs.Timing.{frequencyFrom}
 use borrow.Author.Needs.{needs}
+use borrow.Author.Tests.{le-ltb}
+use Rattle.timing.specs.Timing.{frequencyFrom}
 use Rattle.timing.proofs.parts.frequency_from.Statement.{statement}
 use Rattle.timing.proofs.parts.frequency_from.Tie as tie
-
-returns : tie.Need-returns
-unfolding frequencyFrom
-returns c = simp (lt-ltb _ _ (c .if1 .taken))
 
 sub-counted : tie.Need-sub-counted
 sub-counted c = search needs
@@ -21,11 +17,10 @@ sub-counted-2 c = search needs
 counted-requires-2 : tie.Need-counted-requires-2
 counted-requires-2 c κs = search needs
 
-returns-2 : tie.Need-returns-2
+returns : tie.Need-returns
 unfolding frequencyFrom
-returns-2 c = simp (le-ltb _ _ (c .before .before .before .before .if1 .left)) (cc)
+returns c = simp (le-ltb _ _ (c .before .before .before .before .pre .0)) (cc)
 
 pub frequency-from-spec : {M : Type 1} → statement M
 frequency-from-spec =
-    tie.close
-    (tie.spec returns sub-counted counted-requires sub-counted-2 counted-requires-2 returns-2)
+    tie.close (tie.spec sub-counted counted-requires sub-counted-2 counted-requires-2 returns)
