@@ -3,6 +3,7 @@
 //!     oracle compare [AREA..] [ROUNDS]    every answer compared; the last line counts calls and differences
 //!     oracle bench [AREA..]               both measured; one Markdown table
 //!     oracle fuzz MINUTES [SEED]          mutated captures for so long
+//!     oracle replay                       writes crates/replay/data from the Rust's answers
 //!
 //! An area is one file with `ROUNDS`, `compare` and `bench`, and one line below.
 
@@ -10,6 +11,7 @@ mod common;
 mod fuzz;
 mod lines;
 mod mutate;
+mod replay;
 #[path = "../gen/signal.rs"]
 mod signal;
 mod wall;
@@ -58,6 +60,7 @@ fn usage() -> ExitCode {
     let names: Vec<_> = AREAS.iter().map(|area| area.name).collect();
     eprintln!(
         "oracle compare [AREA..] [ROUNDS] | oracle bench [AREA..] | oracle fuzz MINUTES [SEED]; areas: {}",
+        "oracle compare [AREA..] [ROUNDS] | oracle bench [AREA..] | oracle replay; areas: {}",
         names.join(" ")
     );
     ExitCode::from(2)
@@ -122,6 +125,7 @@ fn main() -> ExitCode {
         (Some("fuzz"), _) => fuzz(&words[1..]),
         (Some("compare"), Some((areas, rounds))) => compare(&areas, rounds),
         (Some("bench"), Some((areas, None))) => bench(&areas),
+        (Some("replay"), Some((_, None))) if words.len() == 1 => replay::write(),
         _ => usage(),
     }
 }

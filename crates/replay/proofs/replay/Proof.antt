@@ -1,0 +1,84 @@
+-- `replay::replay` meets its contract. The measure is what is left. Assumes nothing.
+use Prim.Native.Nat.{_≤_, _-_}
+use native.Mathlib.Omega.{arith}
+use borrow.Author.Needs.{needs}
+use lib.ListN.{length}
+use Rattle.replay.proofs.replay.Statement.{statement}
+use Rattle.replay.proofs.replay.Tie as tie
+
+abbrev Inv-loop : tie.InvT-loop
+Inv-loop «data» tally₀ at₀ tally at = at ≤ length «data»
+
+abbrev μ-loop : tie.MeasureT-loop
+μ-loop «data» tally₀ at₀ tally at = length «data» - at
+
+loop-holds : tie.Need-loop-holds Inv-loop μ-loop
+loop-holds c = omega arith
+
+sub-size-of : tie.Need-sub-size-of Inv-loop μ-loop
+sub-size-of c = omega arith
+
+part-size-of-start : tie.Need-part-size-of-start Inv-loop μ-loop
+part-size-of-start c = omega arith
+
+part-size-of-end : tie.Need-part-size-of-end Inv-loop μ-loop
+part-size-of-end c = omega arith
+
+size-of-requires : tie.Need-size-of-requires Inv-loop μ-loop
+size-of-requires c κs = search needs
+
+sub-least : tie.Need-sub-least Inv-loop μ-loop
+sub-least c = omega arith
+
+least-requires : tie.Need-least-requires Inv-loop μ-loop
+least-requires c κs = search needs
+
+add-end : tie.Need-add-end Inv-loop μ-loop
+add-end c = omega arith
+
+sub-agrees : tie.Need-sub-agrees Inv-loop μ-loop
+sub-agrees c = omega arith
+
+part-agrees-start : tie.Need-part-agrees-start Inv-loop μ-loop
+part-agrees-start c = omega arith
+
+part-agrees-end : tie.Need-part-agrees-end Inv-loop μ-loop
+part-agrees-end c = omega arith
+
+agrees-requires : tie.Need-agrees-requires Inv-loop μ-loop
+agrees-requires c κs = search needs
+
+counted-requires : tie.Need-counted-requires Inv-loop μ-loop
+counted-requires c κs = search needs
+
+loop-less : tie.Need-loop-less Inv-loop μ-loop
+loop-less c = omega arith
+
+loop-again : tie.Need-loop-again Inv-loop μ-loop
+loop-again c = omega arith
+
+returns : tie.Need-returns Inv-loop μ-loop
+returns c = search needs
+
+pub replay-spec : {M : Type 1} → statement M
+replay-spec =
+    tie.close
+    (tie.spec
+    Inv-loop
+    μ-loop
+    loop-holds
+    sub-size-of
+    part-size-of-start
+    part-size-of-end
+    size-of-requires
+    sub-least
+    least-requires
+    add-end
+    sub-agrees
+    part-agrees-start
+    part-agrees-end
+    agrees-requires
+    counted-requires
+    loop-less
+    loop-again
+    returns)

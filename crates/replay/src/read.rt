@@ -1,0 +1,86 @@
+// A line's words, and the numbers made of them. A word is eight upper-case hexadecimal digits and one byte that is not looked at. A word past the end is 0,
+// so that every read is defined; a line that is cut then shows as a difference.
+ghost use Prim.Native.Nat.{_≤_, _<_};
+
+// The most places of a list.
+pub const ROOM: usize = 32;
+
+// The value of a digit; what is no digit is 0.
+fn nibble(b: u8) -> u32
+    ensures { λ r. ⌜ r < 16 ⌝ }
+{
+    (hex::digit(b) % 16) as u32
+}
+
+// The word i.
+pub fn word(line: &[u8], i: usize) -> u32 {
+    if line.len() / 9 <= i {
+        return 0;
+    }
+    let at = i * 9;
+    let high = nibble(line[at]) * 0x1000
+        + nibble(line[at + 1]) * 0x100
+        + nibble(line[at + 2]) * 0x10
+        + nibble(line[at + 3]);
+    let low = nibble(line[at + 4]) * 0x1000
+        + nibble(line[at + 5]) * 0x100
+        + nibble(line[at + 6]) * 0x10
+        + nibble(line[at + 7]);
+    high * 0x1_0000 + low
+}
+
+// The words i and i + 1 as one number, the higher one first.
+pub fn long(line: &[u8], i: usize) -> u64
+    requires { ⌜ i < 65536 ⌝ }
+{
+    (word(line, i) as u64) * 0x1_0000_0000 + (word(line, i + 1) as u64)
+}
+
+// A count of places, at most ROOM.
+pub fn count(line: &[u8], i: usize) -> usize
+    ensures { λ r. ⌜ r ≤ 32 ⌝ }
+{
+    let n = word(line, i) as usize;
+    if n < ROOM { n } else { ROOM }
+}
+
+// The f32 with these bits; any NaN for a NaN's.
+fn float_of(bits: u32) -> f32 {
+    if 0x7f80_0000 < bits % 0x8000_0000 {
+        return 0.0 / 0.0;
+    }
+    f32::from_bits(bits)
+}
+
+// The f64 with these bits; any NaN for a NaN's.
+fn double_of(bits: u64) -> f64 {
+    if 0x7ff0_0000_0000_0000 < bits % 0x8000_0000_0000_0000 {
+        return 0.0 / 0.0;
+    }
+    f64::from_bits(bits)
+}
+
+// The f32 at word i.
+pub fn float(line: &[u8], i: usize) -> f32 {
+    float_of(word(line, i))
+}
+
+// The f64 at the words i and i + 1.
+pub fn double(line: &[u8], i: usize) -> f64
+    requires { ⌜ i < 65536 ⌝ }
+{
+    double_of(long(line, i))
+}
+
+// The ROOM floats from word i on.
+pub fn floats(line: &[u8], i: usize) -> [f32; ROOM]
+    requires { ⌜ i < 65536 ⌝ }
+{
+    let mut out = [0.0f32; ROOM];
+    let mut k = 0usize;
+    while k < ROOM {
+        out[k] = float(line, i + k);
+        k += 1;
+    }
+    out
+}
