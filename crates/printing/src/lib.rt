@@ -1,11 +1,18 @@
 // What `reporting` makes of an input, on standard output. No contract can say what a call of C writes: the gate runs it.
 use libc::STDOUT_FILENO;
+ghost use mathlib.Core.Path.{_≡_};
+ghost use lib.ListN.{length};
+ghost use Rattle.reporting.specs.Report.{reportOf};
 
-pub fn print_report(input: &[u8]) {
+// Prints the report of an input; answers how many bytes it has.
+pub fn print_report(input: &[u8]) -> usize
+    ensures { λ r. ⌜ r ≡ length (reportOf (now (input .entry))) ⌝ }
+{
     let mut text = [0u8; 80];
     let answer = reporting::report_text(input, &mut text);
     let n = answer.bytes;
     if !io::write_all(STDOUT_FILENO, &text[..n]) {
         os::fail(b"write");
     }
+    n
 }

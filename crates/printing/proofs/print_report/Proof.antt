@@ -1,7 +1,13 @@
--- `printing::print_report` is safe and ends: what was written lies within the 80 bytes. Assumes nothing.
+-- `printing::print_report` meets its contract: 80 bytes hold any report, so all of it was written. Assumes nothing.
+use mathlib.Core.Path.{_≡_}
+use Prim.Native.Nat.{_≤_}
+use lib.ListN.{length}
+use denote.Ref.{now}
+use Rattle.reporting.specs.Report.{reportOf}
 use native.Mathlib.Omega.{arith}
+use native.Mathlib.Nat.{le-refl}
 use Rattle.reporting.proofs.Stored.{part-long}
-use Rattle.reporting.proofs.Whole.{bytes-fit}
+use Rattle.reporting.proofs.Whole.{report-short, all-written}
 use borrow.Author.Needs.{needs}
 use Rattle.printing.proofs.print_report.Statement.{statement}
 use Rattle.printing.proofs.print_report.Tie as tie
@@ -12,11 +18,17 @@ slice-aggregate-report-text c = search needs
 report-text-requires : tie.Need-report-text-requires
 report-text-requires c κs = search needs
 
+-- all of the report was written, and it has at most 80 bytes
+whole : (c : tie.After-report-text) → (c .report-text .result .bytes ≡ length (reportOf (now (c .before .before .before .args .input)))) × (c .report-text .result .bytes ≤ 80)
+whole c =
+    let e = all-written (now (c .before .before .before .args .input)) _ (c .report-text .result) _ (c .report-text .ensures) (le-refl 80) in
+    (e, omega (arith, e, report-short (now (c .before .before .before .args .input))))
+
 array-share-prefix-text : tie.Need-array-share-prefix-text
-array-share-prefix-text c = omega (arith, bytes-fit _ _ _ _ (c .before .report-text .ensures), c .before .report-text .kept .1 .0)
+array-share-prefix-text c = omega (arith, whole (c .before) .1, c .before .report-text .kept .1 .0)
 
 slice-aggregate-write-all : tie.Need-slice-aggregate-write-all
-slice-aggregate-write-all c = part-long _ _ (omega (arith, bytes-fit _ _ _ _ (c .before .before .report-text .ensures), c .before .before .report-text .kept .1 .0))
+slice-aggregate-write-all c = part-long _ _ (omega (arith, whole (c .before .before) .1, c .before .before .report-text .kept .1 .0))
 
 write-all-requires : tie.Need-write-all-requires
 write-all-requires c κs = search needs
@@ -28,10 +40,10 @@ fail-requires : tie.Need-fail-requires
 fail-requires c κs = search needs
 
 returns : tie.Need-returns
-returns c = search needs
+returns c = whole (c .before .before .before .before .before .before) .0
 
 returns-2 : tie.Need-returns-2
-returns-2 c = search needs
+returns-2 c = whole (c .before .before .before .before) .0
 
 pub print-report-spec : {M : Type 1} → statement M
 print-report-spec =
