@@ -7,6 +7,7 @@ pub mod number_c;
 pub mod port_c;
 pub mod power_c;
 pub mod quality_c;
+pub mod report_c;
 pub mod samples_c;
 pub mod signal_c;
 pub mod spectrum_c;
