@@ -3,7 +3,7 @@
 use crate::common::{black_box, Check, Log, Random, Table};
 use crate::lines::{self, Pair, Read, Written, LONGEST};
 use crate::mutate::{capture, codes, grouped, mutate, rooms, short_captures, small_capture};
-use crate::wall::Wall;
+use crate::wall::{fenced, lent, Wall};
 
 /// Mutated captures of a full comparison.
 pub const ROUNDS: u64 = 2_000_000;
@@ -50,23 +50,10 @@ fn library_write(volts: &[i16], amps: &[i16], first: u16, text: &mut [u8]) -> Wr
 
 // ---------------------------------------------------------------------------- one call
 
-/// What stood in the lent slices before, and stands in front of them and behind them.
+/// What stood in the lent slices before.
 const VOLT: i16 = 0x5A5A;
 const AMP: i16 = -0x3C3C;
 const BYTE: u8 = 0xEE;
-/// So many places in front, and as many behind.
-const FENCE: usize = 16;
-
-/// Room for n places between two fences.
-fn fenced<T: Copy>(n: usize, stood: T) -> Vec<T> {
-    vec![stood; n + 2 * FENCE]
-}
-
-/// The places between the fences.
-fn lent<T>(all: &mut [T]) -> &mut [T] {
-    let end = all.len() - FENCE;
-    &mut all[FENCE..end]
-}
 
 /// Reads by both, and compares the answers and all that was lent, with what stands around it.
 pub struct Reader {

@@ -1,4 +1,4 @@
-//! Memory that ends at a wall: whoever reads one place too far ends the program.
+//! Memory to lend: what is read ends at a wall, so that reading one place too far ends the program; what is written stands between fences.
 
 use std::ffi::c_void;
 use std::ptr::null_mut;
@@ -39,4 +39,18 @@ impl Wall {
         place.copy_from_slice(text);
         place
     }
+}
+
+/// So many places in front of a slice that is written, and as many behind.
+const FENCE: usize = 16;
+
+/// Room for n places between two fences, all with what stood there before.
+pub fn fenced<T: Copy>(n: usize, stood: T) -> Vec<T> {
+    vec![stood; n + 2 * FENCE]
+}
+
+/// The places between the fences.
+pub fn lent<T>(all: &mut [T]) -> &mut [T] {
+    let end = all.len() - FENCE;
+    &mut all[FENCE..end]
 }
