@@ -9,3 +9,5 @@ pub mod PortIn
 pub mod PortStep
 pub mod Inside
 pub mod Read
+pub mod Spent
+pub mod Sequence

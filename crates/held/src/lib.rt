@@ -1,11 +1,15 @@
 // A signal that keeps the caller's samples beside what it answered last. Each function takes the signal apart and calls the covered one by value.
+mod parts;
+
 ghost use mathlib.Core.Path.{_≡_};
+ghost use lib.Ieee.{binary32, mul};
 ghost use Rattle.signal.specs.State.{metricsOf};
 ghost use Rattle.signal.specs.Calls.{highest, newOf, portOf, phaseSet, dutySet, resetOf};
-ghost use Rattle.port.specs.Fields.{number};
+ghost use Rattle.port.specs.Fields.{number, reading};
 ghost use Rattle.port.specs.Fields as Fields;
-ghost use Rattle.held.specs.Held.{beside, after, withField, seen};
+ghost use Rattle.held.specs.Held.{beside, after, withPort, withField, seen};
 use generator::Wave;
+use port::Port;
 use port::Reading;
 use signal::Answer;
 use signal::Metrics;
@@ -70,13 +74,6 @@ impl<'a> Signal<'a> {
         self.answer = next;
     }
 
-    pub fn set_voltage(&mut self, voltage: f32)
-        ensures { λ _. ⌜ now (self .exit) ≡ withField (now (self .entry)) Fields.at-voltage (number voltage) ⌝ }
-    {
-        let port = self.answer.state.port;
-        let next = port.set_voltage(voltage);
-        self.answer.state.port = next;
-    }
     // The 19 figures and THD.
     pub fn get_metrics(&mut self) -> Metrics
         ensures { λ r. ⌜ seen r (now (self .exit)) ≡ seen (metricsOf (now (self .entry) .answer .state)) (now (self .entry)) ⌝ }
@@ -85,10 +82,348 @@ impl<'a> Signal<'a> {
         signal::get_metrics(state)
     }
 
+    // The borrow is handed back, and the signal is over.
+    pub fn get_samples(self) -> &'a mut [f32]
+        ensures { λ r. ⌜ r ≡ self .entry .samples ⌝ }
+    {
+        self.samples
+    }
+
+    // ---- The port's readings, as crate `port` has them: the samples, the outcome and the rest of the state stay.
+
+    // The whole port, for the calls of crate `port` that have no name here: limits, state, harmonics, the reset.
+    pub fn port(&mut self) -> Port
+        ensures { λ r. ⌜ seen r (now (self .exit)) ≡ seen (now (self .entry) .answer .state .port) (now (self .entry)) ⌝ }
+    {
+        let port = self.answer.state.port;
+        parts::as_it_is(port)
+    }
+
+    // Another port in its place.
+    pub fn set_port(&mut self, port: Port)
+        ensures { λ _. ⌜ now (self .exit) ≡ withPort (now (self .entry)) port ⌝ }
+    {
+        let earlier = self.answer.state.port;
+        let next = parts::given(earlier, port);
+        self.answer.state.port = next;
+    }
+
     pub fn voltage(&mut self) -> f32
         ensures { λ r. ⌜ seen r (now (self .exit)) ≡ seen (now (self .entry) .answer .state .port .voltage) (now (self .entry)) ⌝ }
     {
         let port = self.answer.state.port;
         port.voltage()
+    }
+
+    pub fn set_voltage(&mut self, voltage: f32)
+        ensures { λ _. ⌜ now (self .exit) ≡ withField (now (self .entry)) Fields.at-voltage (number voltage) ⌝ }
+    {
+        let port = self.answer.state.port;
+        let next = port.set_voltage(voltage);
+        self.answer.state.port = next;
+    }
+
+    pub fn current(&mut self) -> f32
+        ensures { λ r. ⌜ seen r (now (self .exit)) ≡ seen (now (self .entry) .answer .state .port .current) (now (self .entry)) ⌝ }
+    {
+        let port = self.answer.state.port;
+        port.current()
+    }
+
+    pub fn set_current(&mut self, current: f32)
+        ensures { λ _. ⌜ now (self .exit) ≡ withField (now (self .entry)) Fields.at-current (number current) ⌝ }
+    {
+        let port = self.answer.state.port;
+        let next = port.set_current(current);
+        self.answer.state.port = next;
+    }
+
+    pub fn frequency(&mut self) -> Reading
+        ensures { λ r. ⌜ seen r (now (self .exit)) ≡ seen (now (self .entry) .answer .state .port .frequency .reading) (now (self .entry)) ⌝ }
+    {
+        let port = self.answer.state.port;
+        port.frequency()
+    }
+
+    pub fn set_frequency(&mut self, frequency: Reading)
+        ensures { λ _. ⌜ now (self .exit) ≡ withField (now (self .entry)) Fields.at-frequency (reading frequency) ⌝ }
+    {
+        let port = self.answer.state.port;
+        let next = port.set_frequency(frequency);
+        self.answer.state.port = next;
+    }
+
+    pub fn phase_angle(&mut self) -> Reading
+        ensures { λ r. ⌜ seen r (now (self .exit)) ≡ seen (now (self .entry) .answer .state .port .«phase_angle» .reading) (now (self .entry)) ⌝ }
+    {
+        let port = self.answer.state.port;
+        port.phase_angle()
+    }
+
+    pub fn set_phase_angle(&mut self, phase_angle: Reading)
+        ensures { λ _. ⌜ now (self .exit) ≡ withField (now (self .entry)) Fields.at-phase-angle (reading «phase_angle») ⌝ }
+    {
+        let port = self.answer.state.port;
+        let next = port.set_phase_angle(phase_angle);
+        self.answer.state.port = next;
+    }
+
+    pub fn active_power(&mut self) -> f32
+        ensures { λ r. ⌜ seen r (now (self .exit)) ≡ seen (now (self .entry) .answer .state .port .«active_power») (now (self .entry)) ⌝ }
+    {
+        let port = self.answer.state.port;
+        port.active_power()
+    }
+
+    pub fn set_active_power(&mut self, active_power: f32)
+        ensures { λ _. ⌜ now (self .exit) ≡ withField (now (self .entry)) Fields.at-active-power (number «active_power») ⌝ }
+    {
+        let port = self.answer.state.port;
+        let next = port.set_active_power(active_power);
+        self.answer.state.port = next;
+    }
+
+    pub fn reactive_power(&mut self) -> Reading
+        ensures { λ r. ⌜ seen r (now (self .exit)) ≡ seen (now (self .entry) .answer .state .port .«reactive_power» .reading) (now (self .entry)) ⌝ }
+    {
+        let port = self.answer.state.port;
+        port.reactive_power()
+    }
+
+    pub fn set_reactive_power(&mut self, reactive_power: Reading)
+        ensures { λ _. ⌜ now (self .exit) ≡ withField (now (self .entry)) Fields.at-reactive-power (reading «reactive_power») ⌝ }
+    {
+        let port = self.answer.state.port;
+        let next = port.set_reactive_power(reactive_power);
+        self.answer.state.port = next;
+    }
+
+    pub fn apparent_power(&mut self) -> Reading
+        ensures { λ r. ⌜ seen r (now (self .exit)) ≡ seen (now (self .entry) .answer .state .port .«apparent_power» .reading) (now (self .entry)) ⌝ }
+    {
+        let port = self.answer.state.port;
+        port.apparent_power()
+    }
+
+    pub fn set_apparent_power(&mut self, apparent_power: Reading)
+        ensures { λ _. ⌜ now (self .exit) ≡ withField (now (self .entry)) Fields.at-apparent-power (reading «apparent_power») ⌝ }
+    {
+        let port = self.answer.state.port;
+        let next = port.set_apparent_power(apparent_power);
+        self.answer.state.port = next;
+    }
+
+    pub fn power_factor(&mut self) -> Reading
+        ensures { λ r. ⌜ seen r (now (self .exit)) ≡ seen (now (self .entry) .answer .state .port .«power_factor» .reading) (now (self .entry)) ⌝ }
+    {
+        let port = self.answer.state.port;
+        port.power_factor()
+    }
+
+    pub fn set_power_factor(&mut self, power_factor: Reading)
+        ensures { λ _. ⌜ now (self .exit) ≡ withField (now (self .entry)) Fields.at-power-factor (reading «power_factor») ⌝ }
+    {
+        let port = self.answer.state.port;
+        let next = port.set_power_factor(power_factor);
+        self.answer.state.port = next;
+    }
+
+    pub fn displacement_pf(&mut self) -> Reading
+        ensures { λ r. ⌜ seen r (now (self .exit)) ≡ seen (now (self .entry) .answer .state .port .«displacement_pf» .reading) (now (self .entry)) ⌝ }
+    {
+        let port = self.answer.state.port;
+        port.displacement_pf()
+    }
+
+    pub fn set_displacement_pf(&mut self, displacement_pf: Reading)
+        ensures { λ _. ⌜ now (self .exit) ≡ withField (now (self .entry)) Fields.at-displacement-pf (reading «displacement_pf») ⌝ }
+    {
+        let port = self.answer.state.port;
+        let next = port.set_displacement_pf(displacement_pf);
+        self.answer.state.port = next;
+    }
+
+    pub fn energy_imported(&mut self) -> f64
+        ensures { λ r. ⌜ seen r (now (self .exit)) ≡ seen (now (self .entry) .answer .state .port .«energy_imported») (now (self .entry)) ⌝ }
+    {
+        let port = self.answer.state.port;
+        port.energy_imported()
+    }
+
+    pub fn set_energy_imported(&mut self, energy_imported: f64)
+        ensures { λ _. ⌜ now (self .exit) ≡ withField (now (self .entry)) Fields.at-energy-imported (number «energy_imported») ⌝ }
+    {
+        let port = self.answer.state.port;
+        let next = port.set_energy_imported(energy_imported);
+        self.answer.state.port = next;
+    }
+
+    pub fn energy_exported(&mut self) -> f64
+        ensures { λ r. ⌜ seen r (now (self .exit)) ≡ seen (now (self .entry) .answer .state .port .«energy_exported») (now (self .entry)) ⌝ }
+    {
+        let port = self.answer.state.port;
+        port.energy_exported()
+    }
+
+    pub fn set_energy_exported(&mut self, energy_exported: f64)
+        ensures { λ _. ⌜ now (self .exit) ≡ withField (now (self .entry)) Fields.at-energy-exported (number «energy_exported») ⌝ }
+    {
+        let port = self.answer.state.port;
+        let next = port.set_energy_exported(energy_exported);
+        self.answer.state.port = next;
+    }
+
+    pub fn voltage_thd(&mut self) -> Reading
+        ensures { λ r. ⌜ seen r (now (self .exit)) ≡ seen (now (self .entry) .answer .state .port .«voltage_thd» .reading) (now (self .entry)) ⌝ }
+    {
+        let port = self.answer.state.port;
+        port.voltage_thd()
+    }
+
+    pub fn set_voltage_thd(&mut self, voltage_thd: Reading)
+        ensures { λ _. ⌜ now (self .exit) ≡ withField (now (self .entry)) Fields.at-voltage-thd (reading «voltage_thd») ⌝ }
+    {
+        let port = self.answer.state.port;
+        let next = port.set_voltage_thd(voltage_thd);
+        self.answer.state.port = next;
+    }
+
+    pub fn current_thd(&mut self) -> Reading
+        ensures { λ r. ⌜ seen r (now (self .exit)) ≡ seen (now (self .entry) .answer .state .port .«current_thd» .reading) (now (self .entry)) ⌝ }
+    {
+        let port = self.answer.state.port;
+        port.current_thd()
+    }
+
+    pub fn set_current_thd(&mut self, current_thd: Reading)
+        ensures { λ _. ⌜ now (self .exit) ≡ withField (now (self .entry)) Fields.at-current-thd (reading «current_thd») ⌝ }
+    {
+        let port = self.answer.state.port;
+        let next = port.set_current_thd(current_thd);
+        self.answer.state.port = next;
+    }
+
+    pub fn voltage_crest_factor(&mut self) -> Reading
+        ensures { λ r. ⌜ seen r (now (self .exit)) ≡ seen (now (self .entry) .answer .state .port .«voltage_crest_factor» .reading) (now (self .entry)) ⌝ }
+    {
+        let port = self.answer.state.port;
+        port.voltage_crest_factor()
+    }
+
+    pub fn set_voltage_crest_factor(&mut self, voltage_crest_factor: Reading)
+        ensures { λ _. ⌜ now (self .exit) ≡ withField (now (self .entry)) Fields.at-voltage-crest-factor (reading «voltage_crest_factor») ⌝ }
+    {
+        let port = self.answer.state.port;
+        let next = port.set_voltage_crest_factor(voltage_crest_factor);
+        self.answer.state.port = next;
+    }
+
+    pub fn current_crest_factor(&mut self) -> Reading
+        ensures { λ r. ⌜ seen r (now (self .exit)) ≡ seen (now (self .entry) .answer .state .port .«current_crest_factor» .reading) (now (self .entry)) ⌝ }
+    {
+        let port = self.answer.state.port;
+        port.current_crest_factor()
+    }
+
+    pub fn set_current_crest_factor(&mut self, current_crest_factor: Reading)
+        ensures { λ _. ⌜ now (self .exit) ≡ withField (now (self .entry)) Fields.at-current-crest-factor (reading «current_crest_factor») ⌝ }
+    {
+        let port = self.answer.state.port;
+        let next = port.set_current_crest_factor(current_crest_factor);
+        self.answer.state.port = next;
+    }
+
+    pub fn efficiency(&mut self) -> Reading
+        ensures { λ r. ⌜ seen r (now (self .exit)) ≡ seen (now (self .entry) .answer .state .port .efficiency .reading) (now (self .entry)) ⌝ }
+    {
+        let port = self.answer.state.port;
+        port.efficiency()
+    }
+
+    pub fn set_efficiency(&mut self, efficiency: Reading)
+        ensures { λ _. ⌜ now (self .exit) ≡ withField (now (self .entry)) Fields.at-efficiency (reading efficiency) ⌝ }
+    {
+        let port = self.answer.state.port;
+        let next = port.set_efficiency(efficiency);
+        self.answer.state.port = next;
+    }
+
+    pub fn losses(&mut self) -> Reading
+        ensures { λ r. ⌜ seen r (now (self .exit)) ≡ seen (now (self .entry) .answer .state .port .losses .reading) (now (self .entry)) ⌝ }
+    {
+        let port = self.answer.state.port;
+        port.losses()
+    }
+
+    pub fn set_losses(&mut self, losses: Reading)
+        ensures { λ _. ⌜ now (self .exit) ≡ withField (now (self .entry)) Fields.at-losses (reading losses) ⌝ }
+    {
+        let port = self.answer.state.port;
+        let next = port.set_losses(losses);
+        self.answer.state.port = next;
+    }
+
+    pub fn voltage_min(&mut self) -> f32
+        ensures { λ r. ⌜ seen r (now (self .exit)) ≡ seen (now (self .entry) .answer .state .port .«voltage_min») (now (self .entry)) ⌝ }
+    {
+        let port = self.answer.state.port;
+        port.voltage_min()
+    }
+
+    pub fn voltage_max(&mut self) -> f32
+        ensures { λ r. ⌜ seen r (now (self .exit)) ≡ seen (now (self .entry) .answer .state .port .«voltage_max») (now (self .entry)) ⌝ }
+    {
+        let port = self.answer.state.port;
+        port.voltage_max()
+    }
+
+    pub fn current_max(&mut self) -> f32
+        ensures { λ r. ⌜ seen r (now (self .exit)) ≡ seen (now (self .entry) .answer .state .port .«current_max») (now (self .entry)) ⌝ }
+    {
+        let port = self.answer.state.port;
+        port.current_max()
+    }
+
+    pub fn power_max(&mut self) -> f32
+        ensures { λ r. ⌜ seen r (now (self .exit)) ≡ seen (now (self .entry) .answer .state .port .«power_max») (now (self .entry)) ⌝ }
+    {
+        let port = self.answer.state.port;
+        port.power_max()
+    }
+
+    pub fn is_enabled(&mut self) -> bool
+        ensures { λ r. ⌜ seen r (now (self .exit)) ≡ seen (now (self .entry) .answer .state .port .«is_enabled») (now (self .entry)) ⌝ }
+    {
+        let port = self.answer.state.port;
+        port.is_enabled()
+    }
+
+    pub fn is_faulted(&mut self) -> bool
+        ensures { λ r. ⌜ seen r (now (self .exit)) ≡ seen (now (self .entry) .answer .state .port .«is_faulted») (now (self .entry)) ⌝ }
+    {
+        let port = self.answer.state.port;
+        port.is_faulted()
+    }
+
+    pub fn temperature(&mut self) -> Reading
+        ensures { λ r. ⌜ seen r (now (self .exit)) ≡ seen (now (self .entry) .answer .state .port .temperature .reading) (now (self .entry)) ⌝ }
+    {
+        let port = self.answer.state.port;
+        port.temperature()
+    }
+
+    pub fn set_temperature(&mut self, temperature: Reading)
+        ensures { λ _. ⌜ now (self .exit) ≡ withField (now (self .entry)) Fields.at-temperature (reading temperature) ⌝ }
+    {
+        let port = self.answer.state.port;
+        let next = port.set_temperature(temperature);
+        self.answer.state.port = next;
+    }
+
+    pub fn instantaneous_power(&mut self) -> f32
+        ensures { λ r. ⌜ seen r (now (self .exit)) ≡ seen (mul binary32 (now (self .entry) .answer .state .port .voltage) (now (self .entry) .answer .state .port .current)) (now (self .entry)) ⌝ }
+    {
+        let port = self.answer.state.port;
+        port.instantaneous_power()
     }
 }

@@ -3,6 +3,7 @@
 use contract.Running.{givenOf, tables, tablesOf}
 use denote.Triple.Spec.{tripleOf}
 use denote.Triple.Table.{entered, cited}
+use lib.Ieee.{Float}
 use Rattle.port.specs.declared.Port.{Port}
 use Rattle.port.proofs.Port.voltage.Symbol as in-def
 use Rattle.port.proofs.Port.voltage.Met as in-thm
@@ -14,10 +15,13 @@ use Rattle.held.proofs.Signal.voltage as voltage
 use Rattle.held.proofs.Signal.voltage.Statement as stated
 use Rattle.held.proofs.Signal.voltage.Code as code
 
+abbrev gives : Port → Float
+gives p = p .voltage
+
 pub voltage-spec : {M : Type 1} → stated.statement M
 unfolding code.routine tablesOf
 voltage-spec 𝓤 H 𝓜 𝓖 𝓡 =
     entered 𝓤 H (tripleOf 𝓤 H (𝓖 .A) voltage.signature (voltage.spec 𝓤 H (𝓖 .A) (𝓜 .mem) (𝓡 .run)))
     (tables 𝓤 H 𝓜 𝓡 code.env .C) (tables 𝓤 H 𝓜 𝓡 code.env .Λ) name code.function (code.unfolded 𝓤 H 𝓜 𝓡)
-    (read-meets the-port number number-laws (λ (p : Port). p .voltage) 𝓤 H (𝓖 .A) (givenOf 𝓤 H 𝓜 𝓖) in-def.name (tablesOf 𝓤 H 𝓜 (tables 𝓤 H 𝓜 𝓡 code.env))
-    (cited 𝓤 H (Callee the-port number number-laws (λ (p : Port). p .voltage) 𝓤 H (𝓖 .A)) 𝓜 𝓡 code.env in-def.name in-def.routine code.calls-port·Port·voltage (in-thm.met 𝓤 H 𝓜 𝓖 𝓡)))
+    (read-meets the-port number number-laws gives 𝓤 H (𝓖 .A) (givenOf 𝓤 H 𝓜 𝓖) in-def.name (tablesOf 𝓤 H 𝓜 (tables 𝓤 H 𝓜 𝓡 code.env))
+    (cited 𝓤 H (Callee the-port number number-laws gives 𝓤 H (𝓖 .A)) 𝓜 𝓡 code.env in-def.name in-def.routine code.calls-port·Port·voltage (in-thm.met 𝓤 H 𝓜 𝓖 𝓡)))

@@ -1,0 +1,27 @@
+-- `Signal::energy_exported` meets its contract: its MIR is that of `Read.antt`, whose walk takes the callee's contract.
+-- Assumes nothing.
+use contract.Running.{givenOf, tables, tablesOf}
+use denote.Triple.Spec.{tripleOf}
+use denote.Triple.Table.{entered, cited}
+use lib.Ieee.{Float}
+use Rattle.port.specs.declared.Port.{Port}
+use Rattle.port.proofs.Port.energy_exported.Symbol as in-def
+use Rattle.port.proofs.Port.energy_exported.Met as in-thm
+use Rattle.held.proofs.ByValue.{wide, wide-laws}
+use Rattle.held.proofs.Inside.{the-port}
+use Rattle.held.proofs.Read.{Callee, read-meets}
+use Rattle.held.proofs.Signal.energy_exported.Key.{name}
+use Rattle.held.proofs.Signal.energy_exported as energy-exported
+use Rattle.held.proofs.Signal.energy_exported.Statement as stated
+use Rattle.held.proofs.Signal.energy_exported.Code as code
+
+abbrev gives : Port → Float
+gives p = p .«energy_exported»
+
+pub energy-exported-spec : {M : Type 1} → stated.statement M
+unfolding code.routine tablesOf
+energy-exported-spec 𝓤 H 𝓜 𝓖 𝓡 =
+    entered 𝓤 H (tripleOf 𝓤 H (𝓖 .A) energy-exported.signature (energy-exported.spec 𝓤 H (𝓖 .A) (𝓜 .mem) (𝓡 .run)))
+    (tables 𝓤 H 𝓜 𝓡 code.env .C) (tables 𝓤 H 𝓜 𝓡 code.env .Λ) name code.function (code.unfolded 𝓤 H 𝓜 𝓡)
+    (read-meets the-port wide wide-laws gives 𝓤 H (𝓖 .A) (givenOf 𝓤 H 𝓜 𝓖) in-def.name (tablesOf 𝓤 H 𝓜 (tables 𝓤 H 𝓜 𝓡 code.env))
+    (cited 𝓤 H (Callee the-port wide wide-laws gives 𝓤 H (𝓖 .A)) 𝓜 𝓡 code.env in-def.name in-def.routine code.calls-port·Port·energy-exported (in-thm.met 𝓤 H 𝓜 𝓖 𝓡)))
