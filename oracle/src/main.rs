@@ -59,8 +59,7 @@ areas! {
 fn usage() -> ExitCode {
     let names: Vec<_> = AREAS.iter().map(|area| area.name).collect();
     eprintln!(
-        "oracle compare [AREA..] [ROUNDS] | oracle bench [AREA..] | oracle fuzz MINUTES [SEED]; areas: {}",
-        "oracle compare [AREA..] [ROUNDS] | oracle bench [AREA..] | oracle replay; areas: {}",
+        "oracle compare [AREA..] [ROUNDS] | oracle bench [AREA..] | oracle fuzz MINUTES [SEED] | oracle replay; areas: {}",
         names.join(" ")
     );
     ExitCode::from(2)
