@@ -1,3 +1,4 @@
 -- The laws that the functions' proofs cite.
-pub mod Steps
+pub mod NotNumbers
+pub mod BlockSums
 pub mod Refusals

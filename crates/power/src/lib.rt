@@ -3,11 +3,12 @@
 ghost use mathlib.Core.Path.{_≡_};
 ghost use Prim.Native.Nat.{_≤_};
 ghost use lib.ListN.{length};
-ghost use Rattle.power.specs.Power.{sumsTo, answerOf};
+ghost use Rattle.answers.specs.Numbers.{longest};
+ghost use Rattle.power.specs.Power.{sumsTo, nanPower, recordOf, answerOf};
 use answers::LONGEST;
 use answers::Outcome;
-use parts::Sums;
 
+mod blocks;
 pub mod parts;
 
 // Laid out as C does, to cross its boundary as it is.
@@ -33,73 +34,31 @@ pub struct PowerAnswer {
     pub power: Power,
 }
 
-// The sums over the pairs before the first that holds a NaN: each sample here is a number, so that widening it needs no choice.
-fn sums_of_numbers(voltage: &[f32], current: &[f32]) -> Sums
-    requires { ⌜ length (now voltage) ≡ length (now current) ⌝ }
-    ensures { λ r. ⌜ r ≡ sumsTo (now (voltage .entry)) (now (current .entry)) (r .count) ⌝ ∗ ⌜ r .count ≤ length (now (voltage .entry)) ⌝ }
+// Of a capture that holds a NaN: every sum with that sample is a NaN, and so are p and s.
+fn of_nan() -> Power
+    ensures { λ r. ⌜ r ≡ nanPower ⌝ }
 {
-    let mut vi: f64 = 0.0;
-    let mut vv: f64 = 0.0;
-    let mut ii: f64 = 0.0;
-    let mut k = 0usize;
-    while k < voltage.len() {
-        let x = voltage[k];
-        let y = current[k];
-        if x != x {
-            return Sums {
-                vi,
-                vv,
-                ii,
-                count: k,
-            };
-        }
-        if y != y {
-            return Sums {
-                vi,
-                vv,
-                ii,
-                count: k,
-            };
-        }
-        let v = x as f64;
-        let i = y as f64;
-        vi = vi + v * i;
-        vv = vv + v * v;
-        ii = ii + i * i;
-        k += 1;
-    }
-    Sums {
-        vi,
-        vv,
-        ii,
-        count: k,
+    Power {
+        p: 0.0 / 0.0,
+        q: 0.0,
+        s: 0.0 / 0.0,
+        pf: 0.0,
     }
 }
 
-// Those sums, carried on to the end.
-fn sums_of_all(voltage: &[f32], current: &[f32]) -> Sums
+// The record of a capture. One pass over each slice looks for a NaN, so that the loops over numbers widen them without a choice.
+fn of_capture(voltage: &[f32], current: &[f32]) -> Power
     requires { ⌜ length (now voltage) ≡ length (now current) ⌝ }
-    ensures { λ r. ⌜ r ≡ sumsTo (now (voltage .entry)) (now (current .entry)) (length (now (voltage .entry))) ⌝ }
+    requires { ⌜ length (now voltage) ≤ longest ⌝ }
+    ensures { λ r. ⌜ r ≡ recordOf (sumsTo (now (voltage .entry)) (now (current .entry)) (length (now (voltage .entry)))) ⌝ }
 {
-    let start = sums_of_numbers(voltage, current);
-    let mut vi = start.vi;
-    let mut vv = start.vv;
-    let mut ii = start.ii;
-    let mut k = start.count;
-    while k < voltage.len() {
-        let v = std::num::f32_to_f64_with_nan(voltage[k]);
-        let i = std::num::f32_to_f64_with_nan(current[k]);
-        vi = vi + v * i;
-        vv = vv + v * v;
-        ii = ii + i * i;
-        k += 1;
+    if !number::parts::all_numbers(voltage) {
+        return of_nan();
     }
-    Sums {
-        vi,
-        vv,
-        ii,
-        count: k,
+    if !number::parts::all_numbers(current) {
+        return of_nan();
     }
+    parts::of_sums(blocks::sums_of_numbers(voltage, current))
 }
 
 // Refused with 3 where a slice is longer than LONGEST, and then with 1 where the lengths differ. The sample rate is not used.
@@ -134,6 +93,6 @@ pub fn compute_power(voltage: &[f32], current: &[f32], sample_rate: f32) -> Powe
     }
     PowerAnswer {
         outcome: Outcome::Done,
-        power: parts::of_sums(sums_of_all(voltage, current)),
+        power: of_capture(voltage, current),
     }
 }

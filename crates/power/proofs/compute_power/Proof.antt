@@ -1,10 +1,8 @@
 -- `power::compute_power` meets its contract: each return rewrites with the tests that led there. Assumes nothing.
-use mathlib.Core.Path.{ap, _∙_}
-use native.Mathlib.Omega.{arith}
+use mathlib.Core.Path.{ap}
 use Rattle.answers.specs.declared.Outcome.the-variants.{Done}
-use Rattle.power.specs.declared.parts.Sums.{Sums}
 use borrow.Author.Tests.{le-ltb, lt-ltb, eq-eqb, ne-eqb}
-use Rattle.power.specs.Power.{recordOf, answered, powerOf, answerOf}
+use Rattle.power.specs.Power.{answered, powerOf, answerOf}
 use borrow.Author.Needs.{needs}
 use Rattle.power.proofs.compute_power.Statement.{statement}
 use Rattle.power.proofs.compute_power.Tie as tie
@@ -25,17 +23,14 @@ returns-4 : tie.Need-returns-4
 unfolding answerOf powerOf
 returns-4 c = simp (le-ltb _ _ (c .before .before .before .if1 .left), le-ltb _ _ (c .before .before .if2 .left), eq-eqb _ _ (c .before .if3 .left), eq-eqb _ _ (c .if4 .taken))
 
-sums-of-all-requires : tie.Need-sums-of-all-requires
-sums-of-all-requires c κs = search needs
-
-of-sums-requires : tie.Need-of-sums-requires
-of-sums-requires c κs = omega (arith, ap (λ (t : Sums). t .count) (c .sums-of-all .ensures))
+of-capture-requires : tie.Need-of-capture-requires
+of-capture-requires c κs = search needs
 
 returns-5 : tie.Need-returns-5
 unfolding answerOf powerOf
 returns-5 c =
-    simp (le-ltb _ _ (c .before .before .before .before .before .if1 .left), le-ltb _ _ (c .before .before .before .before .if2 .left), eq-eqb _ _ (c .before .before .before .if3 .left), ne-eqb _ _ (c .before .before .if4 .left))
-    (ap (answered Done) (c .of-sums .ensures ∙ ap recordOf (c .before .sums-of-all .ensures)))
+    simp (le-ltb _ _ (c .before .before .before .before .if1 .left), le-ltb _ _ (c .before .before .before .if2 .left), eq-eqb _ _ (c .before .before .if3 .left), ne-eqb _ _ (c .before .if4 .left))
+    (ap (answered Done) (c .of-capture .ensures))
 
 pub compute-power-spec : {M : Type 1} → statement M
 compute-power-spec =
@@ -45,6 +40,5 @@ compute-power-spec =
     returns-2
     returns-3
     returns-4
-    sums-of-all-requires
-    of-sums-requires
+    of-capture-requires
     returns-5)
