@@ -6,18 +6,19 @@ use Prim.Native.Nat.{ℕ, _/_}
 use lib.ListN.{length}
 use lib.Ieee.{Float, binary32, binary64, mul, div, lt}
 use Rattle.laws.specs.Harmonics.{powerOf, lastUpTo}
+use Rattle.laws.specs.Literals.{hundred32, tiny32}
 use Rattle.number.specs.Number.{narrow, root}
 use Rattle.spectrum.specs.Bin.{magnitudeOf}
-use Rattle.distortion.specs.Thd.{binOf, usable, tiny, hundred, thdFrom, thdAt, thdOf}
+use Rattle.distortion.specs.Thd.{binOf, usable, thdFrom, thdAt, thdOf}
 
 module _ (top : ℕ) (earlier : Float) (xs : List Float) where
   -- the fundamental is heard, or silent
-  pub heard : (bin last : ℕ) (f p r w : Float) → f ≡ magnitudeOf xs bin → lt tiny f ≡ true → last ≡ lastUpTo top (length xs / 2) bin → p ≡ powerOf (magnitudeOf xs) bin 2 last
-      → r ≡ root binary64 p → w ≡ narrow r → mul binary32 (div binary32 w f) hundred ≡ thdAt top bin earlier xs
+  pub heard : (bin last : ℕ) (f p r w : Float) → f ≡ magnitudeOf xs bin → lt tiny32 f ≡ true → last ≡ lastUpTo top (length xs / 2) bin → p ≡ powerOf (magnitudeOf xs) bin 2 last
+      → r ≡ root binary64 p → w ≡ narrow r → mul binary32 (div binary32 w f) hundred32 ≡ thdAt top bin earlier xs
   unfolding thdAt thdFrom
   heard bin last f p r w ef t el ep er ew = rw (← ef, t, ew, er, ep, el)
 
-  pub silent : (bin : ℕ) (f : Float) → f ≡ magnitudeOf xs bin → lt tiny f ≡ false → earlier ≡ thdAt top bin earlier xs
+  pub silent : (bin : ℕ) (f : Float) → f ≡ magnitudeOf xs bin → lt tiny32 f ≡ false → earlier ≡ thdAt top bin earlier xs
   unfolding thdAt thdFrom
   silent bin f ef t = rw (← ef, t)
 

@@ -53,17 +53,16 @@ last-inside end b h p l g =
     go : (x : ℕ) → 1 ≤ x → x - 1 + 1 ≡ x
     go x l = omega arith
 
--- an order h is among those up to the last exactly when it is at most `top` and its multiple is below the end
-pub record Taken (top end b h : ℕ) : Type 0 where
-  pub all : h ≤ top → b * h < end → h ≤ lastUpTo top end b
-  pub only : h ≤ lastUpTo top end b → (h ≤ top) × (b * h < end)
+-- an order h is among those up to the last exactly when its multiple is below the end
+pub record Within (end b h : ℕ) : Type 0 where
+  pub all : b * h < end → h ≤ lastOrder end b
+  pub only : h ≤ lastOrder end b → b * h < end
 
-pub taken : (top end b h : ℕ) → 0 < b → 0 < end → Taken top end b h
-unfolding lastUpTo
-taken top end b h B H =
+pub within : (end b h : ℕ) → 0 < b → 0 < end → Within end b h
+within end b h B H =
     record {
-      all = λ t l. both h top (lastOrder end b) t (le-div-iff-mul-le B .1 (before (h * b) end (subst (λ (x : ℕ). x < end) (mul-comm b h) l)));
-      only = λ l. (first h top (lastOrder end b) l, subst (λ (x : ℕ). x < end) (mul-comm h b) (after (h * b) end H (le-div-iff-mul-le B .0 (second h top (lastOrder end b) l))));
+      all = λ l. le-div-iff-mul-le B .1 (before (h * b) end (subst (λ (x : ℕ). x < end) (mul-comm b h) l));
+      only = λ l. subst (λ (x : ℕ). x < end) (mul-comm h b) (after (h * b) end H (le-div-iff-mul-le B .0 l));
     }
   where
     before : (x n : ℕ) → x < n → x ≤ n - 1
@@ -72,6 +71,20 @@ taken top end b h B H =
     after : (x n : ℕ) → 0 < n → x ≤ n - 1 → x < n
     after x n p l = omega arith
 
+-- and, with a highest order, at most that
+pub record Taken (top end b h : ℕ) : Type 0 where
+  pub all : h ≤ top → b * h < end → h ≤ lastUpTo top end b
+  pub only : h ≤ lastUpTo top end b → (h ≤ top) × (b * h < end)
+
+pub taken : (top end b h : ℕ) → 0 < b → 0 < end → Taken top end b h
+unfolding lastUpTo
+taken top end b h B H =
+    let w = within end b h B H in
+    record {
+      all = λ t l. both h top (lastOrder end b) t (w .all l);
+      only = λ l. (first h top (lastOrder end b) l, w .only (second h top (lastOrder end b) l));
+    }
+  where
     both : (h a b : ℕ) → h ≤ a → h ≤ b → h ≤ min a b
     both h a b p q = omega arith
 

@@ -12,6 +12,13 @@ zero64 = ofBits binary64 0
 abbrev pub one32 : Float
 one32 = ofBits binary32 0x3F800000
 
+abbrev pub hundred32 : Float
+hundred32 = ofBits binary32 0x42C80000
+
+-- 01's 1e-12: the f32 nearest to it
+abbrev pub tiny32 : Float
+tiny32 = ofBits binary32 0x2B8CBCCC
+
 -- a count as a float: exact, up to 2^24 and 2^53
 abbrev pub count32 : ℕ → Float
 count32 n = ofInt binary32 (pos n)

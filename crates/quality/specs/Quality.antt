@@ -9,7 +9,7 @@ use Rattle.answers.specs.declared.Measured.{Measured}
 use Rattle.answers.specs.declared.Outcome.the-variants.{Done, TooLong}
 use Rattle.answers.specs.Numbers.{tooLong}
 use Rattle.laws.specs.Harmonics.{squareOf}
-use Rattle.laws.specs.Literals.{zero32, zero64}
+use Rattle.laws.specs.Literals.{zero32, zero64, hundred32, tiny32}
 use Rattle.laws.specs.Samples.{higher}
 use Rattle.laws.specs.Walks.{pairs}
 use Rattle.number.specs.Number.{narrow, root}
@@ -31,15 +31,11 @@ given Refused refused unusable usable = refused
 given Unusable refused unusable usable = unusable
 given Usable refused unusable usable = usable
 
--- 01: 1e-12 as the f32 nearest to it
-abbrev pub tiny : Float
-tiny = ofBits binary32 0x2B8CBCCC
-
 -- ---- distortion in percent: the root of the harmonics' power, narrowed, over the fundamental, times 100; 0 for a fundamental below 1e-12.
 -- `compute_thd_from_spectrum` "sums every multiple of the fundamental", from order 2 on
 unfoldable pub thdOf : List Float → ℕ → Float
 thdOf s b =
-    cond (lt (getD s b nan) tiny) zero32 (mul binary32 (div binary32 (narrow (root binary64 (powerIn s b 2))) (getD s b nan)) (ofBits binary32 0x42C80000))
+    cond (lt (getD s b nan) tiny32) zero32 (mul binary32 (div binary32 (narrow (root binary64 (powerIn s b 2))) (getD s b nan)) hundred32)
 
 -- "a THD of 0.0 for a fundamental bin of 0 or past the end"
 unfoldable pub answerThd : List Float → ℕ → Measured
@@ -88,7 +84,7 @@ spurOf s b = pairs (spurAt b) zero32 s (length s - 1)
 
 -- "either the ratio or the answer that there is no spur (largest spur at most 1e-12, no other bin, or NaN throughout)"
 unfoldable pub sfdrOf : List Float → ℕ → Sfdr
-sfdrOf s b = cond (lt tiny (spurOf s b)) (S.Ratio (div binary32 (getD s b nan) (spurOf s b))) S.NoSpur
+sfdrOf s b = cond (lt tiny32 (spurOf s b)) (S.Ratio (div binary32 (getD s b nan) (spurOf s b))) S.NoSpur
 
 unfoldable pub answerSfdr : List Float → ℕ → SfdrAnswer
 answerSfdr s b =
