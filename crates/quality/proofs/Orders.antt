@@ -1,8 +1,8 @@
 -- The loop over the orders of a bin: it starts at an order whose predecessor is inside, takes one order a turn, and ends at the first multiple at or past the end. Assumes nothing.
-use mathlib.Core.Path.{_≡_, sym, ap, _∙_, subst}
+use mathlib.Core.Path.{_≡_, refl, sym, ap, _∙_, subst}
 use mathlib.Core.List.{List}
 use Prim.Native.Nat.{ℕ, suc, _+_, _-_, _*_, _≤_, _<_}
-use native.Mathlib.Nat.{le-trans, le-of-eq, mul-suc, one-mul, mul-le-mul-right}
+use native.Mathlib.Nat.{le-trans, le-of-eq, lt-of-le-of-lt, mul-suc, mul-add, one-mul, mul-le-mul-left, mul-le-mul-right}
 use native.Mathlib.Omega.{arith}
 use lib.ListN.{length}
 use lib.Ieee.{Float, binary64, add}
@@ -27,6 +27,16 @@ multiple n b h i = ap (λ (x : ℕ). b * x) (go h (i .order)) ∙ mul-suc b (h -
 pub order-le : (b h : ℕ) → 0 < b → h ≤ b * h
 order-le b h B = le-trans (le-of-eq (sym (one-mul h))) (mul-le-mul-right h B)
 
+-- the multiple by the last of four orders, and the three before it
+pub fourth : (n b h : ℕ) → Inside n b h → b * (h + 3) ≡ b * (h - 1) + b * 4
+fourth n b h i = ap (λ (x : ℕ). b * x) (go h (i .order)) ∙ mul-add b (h - 1) 4
+  where
+    go : (x : ℕ) → 1 ≤ x → x + 3 ≡ x - 1 + 4
+    go x l = omega arith
+
+pub up-to-fourth : (n b h o : ℕ) → b * (h + 3) < n → o ≤ h + 3 → b * o < n
+up-to-fourth n b h o p l = lt-of-le-of-lt (mul-le-mul-left b l) p
+
 -- ---- the sum
 module _ (s : List Float) (b first : ℕ) where
   pub summed-none : Inside (length s) b first → Summed s b first zero64 first
@@ -50,6 +60,19 @@ module _ (s : List Float) (b first : ℕ) where
     where
       go : (x : ℕ) → x ≡ x + 1 - 1
       go x = omega arith
+
+  -- four orders more
+  pub summed-four : (h : ℕ) {t u v w z : Float} → Summed s b first t h → b * (h + 3) < length s → u ≡ squareOf (magnitudeIn s (b * h))
+      → v ≡ squareOf (magnitudeIn s (b * (h + 1))) → w ≡ squareOf (magnitudeIn s (b * (h + 2))) → z ≡ squareOf (magnitudeIn s (b * (h + 3)))
+      → Summed s b first (add binary64 (add binary64 (add binary64 (add binary64 t u) v) w) z) (h + 4)
+  summed-four h m l p q r e =
+      let at = up-to-fourth (length s) b h in
+      let two = summed-next (h + 1) (summed-next h m (at h l (omega arith)) refl p) (at (h + 1) l (omega arith)) refl q in
+      let three = summed-next (h + 2) (same (h + 1 + 1) (h + 2) (omega arith) two) (at (h + 2) l (omega arith)) refl r in
+      same (h + 3 + 1) (h + 4) (omega arith) (summed-next (h + 3) (same (h + 2 + 1) (h + 3) (omega arith) three) l refl e)
+    where
+      same : (i j : ℕ) {x : Float} → i ≡ j → Summed s b first x i → Summed s b first x j
+      same i j {x} e = subst (λ (o : ℕ). Summed s b first x o) e
 
   -- the first multiple at or past the end: the order before it is the last inside
   pub summed-all : (h : ℕ) {t : Float} → Summed s b first t h → length s ≤ b * h → t ≡ powerIn s b first

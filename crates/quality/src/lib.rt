@@ -1,5 +1,7 @@
 // Distortion, and the quotients behind the signal-to-noise figures, of a magnitude spectrum whose place 0 is the constant part.
 ghost use mathlib.Core.Path.{_≡_};
+ghost use mathlib.Core.Bool.{true, false};
+ghost use lib.Ieee.{ne};
 ghost use lib.ListN.{length};
 ghost use Rattle.laws.specs.Harmonics.{squareOf};
 ghost use Rattle.quality.specs.Powers.{powerIn, Inside, Summed};
@@ -98,7 +100,35 @@ struct Tally {
     order: usize,
 }
 
-// The power of the multiples from this order on, up to the first that holds a NaN: each magnitude here is a number, so that widening it needs no choice.
+// Whether all four are numbers: one test for four places, so that the loop over them has time to spare beside its sums.
+fn numbers(a: f32, b: f32, c: f32, d: f32) -> bool
+    ensures { λ r. ⌜ (r ≡ true → (ne a a ≡ false) × (ne b b ≡ false) × (ne c c ≡ false) × (ne d d ≡ false)) ⌝ }
+{
+    if a != a {
+        return false;
+    }
+    if b != b {
+        return false;
+    }
+    if c != c {
+        return false;
+    }
+    if d != d {
+        return false;
+    }
+    true
+}
+
+// The square of a magnitude that is a number, so that widening it needs no choice.
+fn square_of_number(x: f32) -> f64
+    requires { ⌜ ne x x ≡ false ⌝ }
+    ensures { λ r. ⌜ r ≡ squareOf x ⌝ }
+{
+    let m = x as f64;
+    m * m
+}
+
+// The power of the multiples from this order on, four orders a turn, up to the last four inside or the first four that hold a NaN.
 fn power_of_numbers(spectrum: &[f32], bin: usize, first: usize) -> Tally
     requires { ⌜ Inside (length (now spectrum)) bin first ⌝ }
     ensures { λ r. ⌜ Summed (now (spectrum .entry)) bin first (r .sum) (r .order) ⌝ }
@@ -106,18 +136,23 @@ fn power_of_numbers(spectrum: &[f32], bin: usize, first: usize) -> Tally
     let mut sum: f64 = 0.0;
     let mut h = first;
     loop {
-        // below twice the length, since the order before was inside
-        let at = bin * h;
-        if at >= spectrum.len() {
+        // below five times the length, since the order before h was inside
+        let last = bin * (h + 3);
+        if last >= spectrum.len() {
             break;
         }
-        let x = spectrum[at];
-        if x != x {
-            return Tally { sum, order: h };
+        let a = spectrum[bin * h];
+        let b = spectrum[bin * (h + 1)];
+        let c = spectrum[bin * (h + 2)];
+        let d = spectrum[last];
+        if !numbers(a, b, c, d) {
+            break;
         }
-        let m = x as f64;
-        sum = sum + m * m;
-        h += 1;
+        sum = sum + square_of_number(a);
+        sum = sum + square_of_number(b);
+        sum = sum + square_of_number(c);
+        sum = sum + square_of_number(d);
+        h += 4;
     }
     Tally { sum, order: h }
 }

@@ -1,17 +1,13 @@
 -- `quality::power_of_numbers` meets its contract. The loop's invariant: the sum is that of the orders before h. The measure is what is left of the length. Assumes nothing.
-use mathlib.Core.Path.{refl}
-use mathlib.Core.Bool.{not}
-use Prim.Native.Nat.{_*_, _-_}
+use mathlib.Core.Path.{_≡_, refl}
+use mathlib.Core.Bool.{Bool, true, false, not}
+use Prim.Native.Nat.{ℕ, _+_, _-_, _*_, _≤_, _<_}
 use native.Mathlib.Omega.{arith}
 use borrow.Author.Needs.{needs}
 use denote.Ref.{now}
-use lib.ListN.{length, getD}
-use lib.Ieee.{nan, binary64, fits, isNan}
-use lib.Ieee.Fits.{and-i, fits-widens}
-use Rattle.laws.specs.Harmonics.{squareOf}
-use Rattle.laws.proofs.Numbers.{no-nan}
+use lib.ListN.{length}
 use Rattle.quality.specs.Powers.{Summed}
-use Rattle.quality.proofs.Orders.{multiple, order-le, summed-none, summed-next}
+use Rattle.quality.proofs.Orders.{order-le, fourth, up-to-fourth, summed-none, summed-four}
 use Rattle.quality.proofs.power_of_numbers.Statement.{statement}
 use Rattle.quality.proofs.power_of_numbers.Tie as tie
 
@@ -22,49 +18,120 @@ abbrev μ-loop : tie.MeasureT-loop
 μ-loop spectrum bin first sum₀ h₀ sum h = length spectrum - h
 
 loop-holds : tie.Need-loop-holds Inv-loop μ-loop
-loop-holds c = summed-none _ _ _ (c .pre)
+loop-holds c = summed-none _ _ _ (c .before .pre)
 
-mul-at : tie.Need-mul-at Inv-loop μ-loop
-mul-at c =
+-- ---- the four places
+add-last : tie.Need-add-last Inv-loop μ-loop
+add-last c =
     let i = c .loop .inv .inside in
-    let m = multiple _ _ _ i in
+    let o = order-le _ (c .loop .h - 1) (i .bin) in
+    omega (arith, i .places, i .before)
+
+mul-last : tie.Need-mul-last Inv-loop μ-loop
+mul-last c =
+    let i = c .loop .inv .inside in
+    let m = fourth _ _ _ i in
     omega (arith, i .places, i .end, i .before)
 
-mul-x : tie.Need-mul-x Inv-loop μ-loop
-mul-x c = search needs
+-- the place of an order up to the fourth, and the order itself, are inside
+spot : (c : tie.In-loop Inv-loop μ-loop) (o : ℕ) → o ≤ c .before .loop .h + 3 → c .before .before .before .args .bin * o < length (now (c .before .before .before .args .spectrum))
+spot c o l = up-to-fourth _ _ (c .before .loop .h) o (omega arith) l
 
-shared-slice-read-x : tie.Need-shared-slice-read-x Inv-loop μ-loop
-shared-slice-read-x c = search needs
+short : (c : tie.In-loop Inv-loop μ-loop) → (c .before .loop .h + 3 < length (now (c .before .before .before .args .spectrum))) × (length (now (c .before .before .before .args .spectrum)) ≤ 65536)
+short c =
+    let i = c .before .loop .inv .inside in
+    let o = order-le _ (c .before .loop .h + 3) (i .bin) in
+    (omega arith, i .places)
 
-returns : tie.Need-returns Inv-loop μ-loop
-returns c = c .before .before .before .loop .inv
-
-float-to-float-m : tie.Need-float-to-float-m Inv-loop μ-loop
-float-to-float-m c =
-    let a = c .before .before .before .before .before .args in
-    let x = getD (now (a .spectrum)) (a .bin * c .before .before .before .before .loop .h) nan in
-    and-i (fits binary64 x) (not (isNan x)) (fits-widens x (c .row-known .given)) (no-nan x (c .before .if1 .left))
-
-add-h : tie.Need-add-h Inv-loop μ-loop
-add-h c =
-    let i = c .before .before .before .before .loop .inv .inside in
-    let o = order-le _ (c .before .before .before .before .loop .h) (i .bin) in
-    omega (arith, i .places)
-
-loop-less : tie.Need-loop-less Inv-loop μ-loop
-loop-less c =
-    let i = c .before .before .before .before .loop .inv .inside in
-    let o = order-le _ (c .before .before .before .before .loop .h) (i .bin) in
+mul-a : tie.Need-mul-a Inv-loop μ-loop
+mul-a c =
+    let p = spot c (c .before .loop .h) (omega arith) in
+    let s = short c in
     omega arith
 
+mul-a-2 : tie.Need-mul-a-2 Inv-loop μ-loop
+mul-a-2 c = search needs
+
+shared-slice-read-a : tie.Need-shared-slice-read-a Inv-loop μ-loop
+shared-slice-read-a c = let p = spot (c .before) (c .before .before .loop .h) (omega arith) in omega arith
+
+add-b : tie.Need-add-b Inv-loop μ-loop
+add-b c = let s = short (c .before) in omega arith
+
+mul-b : tie.Need-mul-b Inv-loop μ-loop
+mul-b c =
+    let p = spot (c .before) (c .before .before .loop .h + 1) (omega arith) in
+    let s = short (c .before) in
+    omega arith
+
+mul-b-2 : tie.Need-mul-b-2 Inv-loop μ-loop
+mul-b-2 c = search needs
+
+shared-slice-read-b : tie.Need-shared-slice-read-b Inv-loop μ-loop
+shared-slice-read-b c = let p = spot (c .before .before) (c .before .before .before .loop .h + 1) (omega arith) in omega arith
+
+add-c : tie.Need-add-c Inv-loop μ-loop
+add-c c = let s = short (c .before .before) in omega arith
+
+mul-c : tie.Need-mul-c Inv-loop μ-loop
+mul-c c =
+    let p = spot (c .before .before) (c .before .before .before .loop .h + 2) (omega arith) in
+    let s = short (c .before .before) in
+    omega arith
+
+mul-c-2 : tie.Need-mul-c-2 Inv-loop μ-loop
+mul-c-2 c = search needs
+
+shared-slice-read-c : tie.Need-shared-slice-read-c Inv-loop μ-loop
+shared-slice-read-c c = let p = spot (c .before .before .before) (c .before .before .before .before .loop .h + 2) (omega arith) in omega arith
+
+mul-d : tie.Need-mul-d Inv-loop μ-loop
+mul-d c = search needs
+
+shared-slice-read-d : tie.Need-shared-slice-read-d Inv-loop μ-loop
+shared-slice-read-d c = omega arith
+
+-- ---- the four magnitudes
+numbers-requires : tie.Need-numbers-requires Inv-loop μ-loop
+numbers-requires c κs = search needs
+
+held : (t : Bool) → not t ≡ false → t ≡ true
+held true e = refl
+held false e = absurd (never e)
+  where
+    never : true ≡ false → ⊥
+    never e = let z : _≡_ {A = ℕ} 0 1 = cc in omega arith
+
+square-of-number-requires : tie.Need-square-of-number-requires Inv-loop μ-loop
+square-of-number-requires c κs = let n = c .before .numbers in n .ensures (held (n .result) (c .if1 .left)) .0
+
+square-of-number-requires-2 : tie.Need-square-of-number-requires-2 Inv-loop μ-loop
+square-of-number-requires-2 c κs = let n = c .before .before .numbers in n .ensures (held (n .result) (c .before .if1 .left)) .1
+
+square-of-number-requires-3 : tie.Need-square-of-number-requires-3 Inv-loop μ-loop
+square-of-number-requires-3 c κs = let n = c .before .before .before .numbers in n .ensures (held (n .result) (c .before .before .if1 .left)) .2
+
+square-of-number-requires-4 : tie.Need-square-of-number-requires-4 Inv-loop μ-loop
+square-of-number-requires-4 c κs = let n = c .before .before .before .before .numbers in n .ensures (held (n .result) (c .before .before .before .if1 .left)) .3
+
+-- ---- one turn
+add-h : tie.Need-add-h Inv-loop μ-loop
+add-h c = let s = short (c .before .before .before .before .before .before .before .before .before .before) in omega arith
+
+loop-less : tie.Need-loop-less Inv-loop μ-loop
+loop-less c = let s = short (c .before .before .before .before .before .before .before .before .before .before) in omega arith
+
 loop-again : tie.Need-loop-again Inv-loop μ-loop
-unfolding squareOf
 loop-again c =
-    let l = c .before .before .before .before .loop in
-    summed-next _ _ _ (l .h) (l .inv) (omega arith) refl refl
+    let l = c .before .before .before .before .before .before .before .before .before .before .before .loop in
+    summed-four _ _ _ (l .h) (l .inv) (omega arith) (c .before .before .before .square-of-number .ensures) (c .before .before .square-of-number2 .ensures)
+    (c .before .square-of-number3 .ensures) (c .square-of-number4 .ensures)
+
+returns : tie.Need-returns Inv-loop μ-loop
+returns c = c .before .loop .inv
 
 returns-2 : tie.Need-returns-2 Inv-loop μ-loop
-returns-2 c = c .before .loop .inv
+returns-2 c = c .before .before .before .before .before .before .before .loop .inv
 
 pub power-of-numbers-spec : {M : Type 1} → statement M
 power-of-numbers-spec =
@@ -73,12 +140,28 @@ power-of-numbers-spec =
     Inv-loop
     μ-loop
     loop-holds
-    mul-at
-    mul-x
-    shared-slice-read-x
-    returns
-    float-to-float-m
+    add-last
+    mul-last
+    mul-a
+    mul-a-2
+    shared-slice-read-a
+    add-b
+    mul-b
+    mul-b-2
+    shared-slice-read-b
+    add-c
+    mul-c
+    mul-c-2
+    shared-slice-read-c
+    mul-d
+    shared-slice-read-d
+    numbers-requires
+    square-of-number-requires
+    square-of-number-requires-2
+    square-of-number-requires-3
+    square-of-number-requires-4
     add-h
     loop-less
     loop-again
+    returns
     returns-2)
