@@ -1,3 +1,4 @@
 -- Laws that the proofs of `figures` cite. Assumes nothing.
 pub mod Bounds
+pub mod NanSums
 pub mod Whole

@@ -21,13 +21,13 @@ use Rattle.figures.specs.Ratios.{ratioOf, crestOf, periodOf, excessOf}
 use Rattle.figures.specs.Figures.{peakToPeakOf, positivePeakOf, negativePeakOf, crestFactorOf, formFactorOf, hertzOf, slewRateOf, overshootOf, undershootOf}
 
 -- ---- a NaN in an operation, and in a comparison
-add-nan : (f : Format) (x : Float) → add f x nan ≡ nan
+pub add-nan : (f : Format) (x : Float) → add f x nan ≡ nan
 unfolding add
 add-nan f nan = refl
 add-nan f (inf s) = refl
 add-nan f (fin s m e) = refl
 
-nan-add : (f : Format) (x : Float) → add f nan x ≡ nan
+pub nan-add : (f : Format) (x : Float) → add f nan x ≡ nan
 unfolding add
 nan-add f x = refl
 

@@ -35,7 +35,7 @@ pub struct Sums {
     pub sizes: f64,
 }
 
-// The three sums in one loop: their additions run side by side.
+// The three sums in one loop: their additions run side by side. The first NaN decides all three.
 fn sum_up(samples: &[f32]) -> Sums
     ensures { λ r. ⌜ r ≡ sumsOf (now (samples .entry)) ⌝ }
 {
@@ -44,10 +44,19 @@ fn sum_up(samples: &[f32]) -> Sums
     let mut sizes: f64 = 0.0;
     let mut k = 0usize;
     while k < samples.len() {
-        let x = std::num::f32_to_f64_with_nan(samples[k]);
+        let sample = samples[k];
+        if sample != sample {
+            return Sums {
+                total: 0.0 / 0.0,
+                squares: 0.0 / 0.0,
+                sizes: 0.0 / 0.0,
+            };
+        }
+        let x = sample as f64;
         total = total + x;
         squares = squares + x * x;
-        sizes = sizes + std::num::f32_to_f64_with_nan(number::abs32(samples[k]));
+        let size = number::abs32(sample);
+        sizes = sizes + size as f64;
         k += 1;
     }
     Sums {
@@ -57,14 +66,18 @@ fn sum_up(samples: &[f32]) -> Sums
     }
 }
 
-// The squares of the f32 differences from the average.
+// The squares of the f32 differences from the average. The first that is a NaN decides the sum.
 fn ripple(samples: &[f32], average: f32) -> f64
     ensures { λ r. ⌜ r ≡ rippleOf average (now (samples .entry)) ⌝ }
 {
     let mut squares: f64 = 0.0;
     let mut k = 0usize;
     while k < samples.len() {
-        let x = std::num::f32_to_f64_with_nan(samples[k] - average);
+        let away = samples[k] - average;
+        if away != away {
+            return 0.0 / 0.0;
+        }
+        let x = away as f64;
         squares = squares + x * x;
         k += 1;
     }

@@ -1,14 +1,19 @@
 -- `figures::levels::ripple` meets its contract. The loop's invariant: what is worked out is that of the first k samples. Assumes nothing.
 use borrow.Author.Needs.{needs}
-use mathlib.Core.Path.{_≡_, refl}
+use mathlib.Core.Path.{_≡_, refl, sym, ap}
+use mathlib.Core.Bool.{not}
 use Prim.Native.Nat.{_≤_, _-_}
 use native.Mathlib.Omega.{arith}
-use lib.ListN.{length}
+use lib.ListN.{length, getD}
+use lib.Ieee.{nan, binary32, binary64, fits, isNan, sub, mul, div, ofBits}
+use lib.Ieee.Fits.{and-i, fits-widens}
 use denote.Ref.{now}
-use Rattle.laws.specs.Walks.{over}
-use Rattle.laws.proofs.Turn.{over-next}
 use Rattle.laws.specs.Literals.{zero64}
-use Rattle.figures.specs.Levels.{adding, sumOf, away}
+use Rattle.laws.specs.Walks.{over}
+use Rattle.laws.proofs.Numbers.{is-nan, no-nan}
+use Rattle.laws.proofs.Turn.{over-next}
+use Rattle.figures.specs.Levels.{adding, sumOf, square, away}
+use Rattle.figures.proofs.NanSums.{nan-sum}
 use Rattle.figures.proofs.levels.ripple.Statement.{statement}
 use Rattle.figures.proofs.levels.ripple.Tie as tie
 
@@ -22,15 +27,24 @@ loop-holds : tie.Need-loop-holds Inv-loop μ-loop
 unfolding over
 loop-holds c = (omega arith, refl)
 
-mul-f32-to-f64-with-nan : tie.Need-mul-f32-to-f64-with-nan Inv-loop μ-loop
-mul-f32-to-f64-with-nan c = search needs
+mul-away : tie.Need-mul-away Inv-loop μ-loop
+mul-away c = search needs
 
-shared-slice-read-f32-to-f64-with-nan :
-    tie.Need-shared-slice-read-f32-to-f64-with-nan Inv-loop μ-loop
-shared-slice-read-f32-to-f64-with-nan c = search needs
+shared-slice-read-away : tie.Need-shared-slice-read-away Inv-loop μ-loop
+shared-slice-read-away c = search needs
 
-f32-to-f64-with-nan-requires : tie.Need-f32-to-f64-with-nan-requires Inv-loop μ-loop
-f32-to-f64-with-nan-requires c κs = search needs
+returns : tie.Need-returns Inv-loop μ-loop
+unfolding mul div ofBits
+returns c =
+    let l = c .before .before .before .loop in
+    let a = c .before .before .before .before .args in
+    sym (nan-sum (away (a .average)) (now (a .samples)) (l .k) (ap square (is-nan _ (c .if1 .taken))) (omega arith))
+
+float-to-float-x : tie.Need-float-to-float-x Inv-loop μ-loop
+float-to-float-x c =
+    let a = c .before .before .before .before .before .args in
+    let x = sub binary32 (getD (now (a .samples)) (c .before .before .before .before .loop .k) nan) (a .average) in
+    and-i (fits binary64 x) (not (isNan x)) (fits-widens x (c .row-known .given)) (no-nan x (c .before .if1 .left))
 
 add-k : tie.Need-add-k Inv-loop μ-loop
 add-k c = search needs
@@ -40,14 +54,14 @@ loop-less c = search needs
 
 loop-again : tie.Need-loop-again Inv-loop μ-loop
 loop-again c =
-    let l = c .before .before .before .loop in
+    let l = c .before .before .before .before .loop in
     let a = c .before .before .before .before .before .args in
-    (omega arith, rw (c .f32-to-f64-with-nan .ensures) (over-next (adding (away (a .average))) zero64 (now (a .samples)) (l .k) (l .inv .1) refl))
+    (omega arith, over-next (adding (away (a .average))) zero64 (now (a .samples)) (l .k) (l .inv .1) refl)
 
-returns : tie.Need-returns Inv-loop μ-loop
+returns-2 : tie.Need-returns-2 Inv-loop μ-loop
 unfolding sumOf
-returns c =
-    let e : c .before .loop .k ≡ length (now (c .before .before .before .args .samples)) = omega arith in
+returns-2 c =
+    let e : c .before .loop .k ≡ length (now (c .before .before .args .samples)) = omega arith in
     cc
 
 pub ripple-spec : {M : Type 1} → statement M
@@ -57,10 +71,11 @@ ripple-spec =
     Inv-loop
     μ-loop
     loop-holds
-    mul-f32-to-f64-with-nan
-    shared-slice-read-f32-to-f64-with-nan
-    f32-to-f64-with-nan-requires
+    mul-away
+    shared-slice-read-away
+    returns
+    float-to-float-x
     add-k
     loop-less
     loop-again
-    returns)
+    returns-2)

@@ -1,17 +1,22 @@
 -- `figures::levels::sum_up` meets its contract. The loop's invariant: what is worked out is that of the first k samples. Assumes nothing.
 use borrow.Author.Needs.{needs}
-use mathlib.Core.Path.{_≡_, refl}
+use mathlib.Core.Path.{_≡_, refl, sym, ap, subst, _∙_}
+use mathlib.Core.Bool.{not}
 use Prim.Native.Nat.{_≤_, _-_}
 use native.Mathlib.Omega.{arith}
-use lib.ListN.{length}
-use lib.Ieee.{binary64, add}
+use lib.Dec.{T}
+use lib.ListN.{length, getD}
+use lib.Ieee.{Float, nan, binary64, fits, isNan, add, mul, div, ofBits}
+use lib.Ieee.Fits.{and-i, fits-widens}
 use denote.Ref.{now}
-use Rattle.laws.specs.Walks.{over}
-use Rattle.laws.proofs.Turn.{over-next}
 use Rattle.laws.specs.Literals.{zero64}
+use Rattle.laws.specs.Walks.{over}
+use Rattle.laws.proofs.Numbers.{is-nan, no-nan}
+use Rattle.laws.proofs.Turn.{over-next}
 use Rattle.number.specs.Number.{abs}
 use Rattle.timing.specs.Timing.{totalOf}
 use Rattle.figures.specs.Levels.{adding, sumOf, square}
+use Rattle.figures.proofs.NanSums.{nan-sum, size-number}
 use Rattle.figures.proofs.levels.sum_up.Statement.{statement}
 use Rattle.figures.proofs.levels.sum_up.Tie as tie
 
@@ -25,27 +30,33 @@ loop-holds : tie.Need-loop-holds Inv-loop μ-loop
 unfolding over
 loop-holds c = (omega arith, refl, refl, refl)
 
-mul-f32-to-f64-with-nan : tie.Need-mul-f32-to-f64-with-nan Inv-loop μ-loop
-mul-f32-to-f64-with-nan c = search needs
+mul-sample : tie.Need-mul-sample Inv-loop μ-loop
+mul-sample c = search needs
 
-shared-slice-read-f32-to-f64-with-nan :
-    tie.Need-shared-slice-read-f32-to-f64-with-nan Inv-loop μ-loop
-shared-slice-read-f32-to-f64-with-nan c = search needs
+shared-slice-read-sample : tie.Need-shared-slice-read-sample Inv-loop μ-loop
+shared-slice-read-sample c = search needs
 
-f32-to-f64-with-nan-requires : tie.Need-f32-to-f64-with-nan-requires Inv-loop μ-loop
-f32-to-f64-with-nan-requires c κs = search needs
+returns : tie.Need-returns Inv-loop μ-loop
+unfolding totalOf sumOf mul div abs ofBits
+returns c =
+    let k = c .before .before .before .loop .k in
+    let xs = now (c .before .before .before .before .before .args .samples) in
+    let met : (f : Float → Float) → f nan ≡ nan → sumOf f xs ≡ nan = λ f h. nan-sum f xs k (ap f (is-nan _ (c .if1 .taken)) ∙ h) (omega arith) in
+    rw (met (λ (x : Float). x) refl, met square refl, met abs refl)
 
-mul-abs32 : tie.Need-mul-abs32 Inv-loop μ-loop
-mul-abs32 c = search needs
-
-shared-slice-read-abs32 : tie.Need-shared-slice-read-abs32 Inv-loop μ-loop
-shared-slice-read-abs32 c = search needs
+float-to-float-x : tie.Need-float-to-float-x Inv-loop μ-loop
+float-to-float-x c =
+    let x = getD (now (c .before .before .before .before .before .before .args .samples)) (c .before .before .before .before .loop .k) nan in
+    and-i (fits binary64 x) (not (isNan x)) (fits-widens x (c .row-known .given)) (no-nan x (c .before .if1 .left))
 
 abs32-requires : tie.Need-abs32-requires Inv-loop μ-loop
 abs32-requires c κs = search needs
 
-f32-to-f64-with-nan-requires-2 : tie.Need-f32-to-f64-with-nan-requires-2 Inv-loop μ-loop
-f32-to-f64-with-nan-requires-2 c κs = search needs
+float-to-float-sizes : tie.Need-float-to-float-sizes Inv-loop μ-loop
+float-to-float-sizes c =
+    let x = getD (now (c .before .before .before .before .before .before .before .before .args .samples)) (c .before .before .before .before .before .before .loop .k) nan in
+    let y = c .before .abs32 .result in
+    and-i (fits binary64 y) (not (isNan y)) (fits-widens y (c .row-known2 .given)) (subst (λ (z : Float). T (not (isNan z))) (sym (c .before .abs32 .ensures)) (size-number x (no-nan x (c .before .before .before .if1 .left))))
 
 add-k : tie.Need-add-k Inv-loop μ-loop
 add-k c = search needs
@@ -57,12 +68,11 @@ loop-again : tie.Need-loop-again Inv-loop μ-loop
 loop-again c =
     let l = c .before .before .before .before .before .before .loop in
     let xs = now (c .before .before .before .before .before .before .before .before .args .samples) in
-    let e = c .before .before .before .f32-to-f64-with-nan .ensures in
-    (omega arith, over-next (add binary64) zero64 xs (l .k) (l .inv .1) e, over-next (adding square) zero64 xs (l .k) (l .inv .2) e, rw (c .f32-to-f64-with-nan2 .ensures, c .before .abs32 .ensures) (over-next (adding abs) zero64 xs (l .k) (l .inv .3) refl))
+    (omega arith, over-next (add binary64) zero64 xs (l .k) (l .inv .1) refl, over-next (adding square) zero64 xs (l .k) (l .inv .2) refl, rw (c .before .abs32 .ensures) (over-next (adding abs) zero64 xs (l .k) (l .inv .3) refl))
 
-returns : tie.Need-returns Inv-loop μ-loop
+returns-2 : tie.Need-returns-2 Inv-loop μ-loop
 unfolding totalOf sumOf
-returns c =
+returns-2 c =
     let e : c .before .loop .k ≡ length (now (c .before .before .before .args .samples)) = omega arith in
     cc
 
@@ -73,14 +83,13 @@ sum-up-spec =
     Inv-loop
     μ-loop
     loop-holds
-    mul-f32-to-f64-with-nan
-    shared-slice-read-f32-to-f64-with-nan
-    f32-to-f64-with-nan-requires
-    mul-abs32
-    shared-slice-read-abs32
+    mul-sample
+    shared-slice-read-sample
+    returns
+    float-to-float-x
     abs32-requires
-    f32-to-f64-with-nan-requires-2
+    float-to-float-sizes
     add-k
     loop-less
     loop-again
-    returns)
+    returns-2)
