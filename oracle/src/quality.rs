@@ -7,7 +7,7 @@ use crate::common::{bits32, bits64, black_box, edges32, list32, same64, Check, K
 use crate::signal::{compute_enob, compute_sfdr, compute_sinad, compute_snr, compute_thd_from_spectrum};
 use crate::timing::Figure;
 
-mod cut {
+pub mod cut {
     include!("../gen/cut.rs");
 }
 

@@ -2,18 +2,25 @@
 //! in crates/replay/src/main.rt.
 
 use crate::common::{edges32, edges64, Kind, Random, KINDS};
-use crate::signal;
+use crate::generator::wave_of;
+use crate::quality::cut;
+use crate::signal::{self, Signal, SignalMetrics};
+use crate::spectrum::over_sines;
 use std::process::ExitCode;
 
 /// Where the files go.
 const DATA: &str = concat!(env!("CARGO_MANIFEST_DIR"), "/../crates/replay/data");
 
 /// The areas, by the number of 01's item: one file each.
-const AREAS: [(&str, fn(&mut Lines)); 4] = [
+const AREAS: [(&str, fn(&mut Lines)); 8] = [
     ("number", number),
     ("samples", samples),
     ("timing", timing),
     ("power", power),
+    ("figures", figures),
+    ("spectrum", spectrum),
+    ("quality", quality),
+    ("generator", generator),
 ];
 
 /// The lines of one file, and the inputs' source.
@@ -224,6 +231,173 @@ fn power(lines: &mut Lines) {
             &Given {
                 a,
                 b,
+                ..Given::default()
+            },
+            &said,
+        );
+    }
+}
+
+/// The waves, and numbers past the last.
+fn wave(lines: &mut Lines) -> u8 {
+    lines.random.pick(&[0, 1, 2, 3, 0, 1, 2, 3, 4, 255])
+}
+
+fn figures(lines: &mut Lines) {
+    for round in 0..300 {
+        let (wave, amplitude, frequency) = (wave(lines), lines.setting(), lines.setting());
+        let a = lines.list();
+        let mut earlier = [0.0; 24];
+        // the earlier record is seen where there are no samples
+        if round % 3 == 0 || a.is_empty() {
+            lines.random.fill(Kind::Mixed, &mut earlier);
+        }
+        let earlier = SignalMetrics::tail_from(&earlier);
+        let mut list = a.clone();
+        let mut signal = Signal::tail_over(wave_of(wave), amplitude, frequency, &earlier, &mut list);
+        signal.tail_calculate();
+        let floats = signal.get_metrics().tail_time().to_vec();
+        let mut words = vec![wave as u32, word(&amplitude), word(&frequency)];
+        words.extend(earlier.tail_time().iter().map(word));
+        lines.line(
+            1,
+            &Given {
+                words,
+                a,
+                ..Given::default()
+            },
+            &Said {
+                floats,
+                ..Said::default()
+            },
+        );
+    }
+}
+
+/// The sines of n places as 01 has them: whole numbers over 2^30.
+fn sines(n: usize) -> Vec<f64> {
+    let turn = |j| 2.0 * std::f64::consts::PI * j as f64 / n as f64;
+    (0..n)
+        .map(|j| libm::round(libm::sin(turn(j)) * 1_073_741_824.0) / 1_073_741_824.0)
+        .collect()
+}
+
+/// The Rust's operations over 01's sines; off the grid 4; an output or a scratch that is too short 2.
+fn spectrum(lines: &mut Lines) {
+    for round in 0..300 {
+        let kind = lines.random.pick(&KINDS);
+        let n = match round % 8 {
+            7 => lines.random.below(33) as usize,
+            _ => lines.random.pick(&[0, 1, 2, 4, 8, 8, 16, 16, 32]),
+        };
+        let room = |lines: &mut Lines, needed: usize| match lines.random.below(8) {
+            0 => needed.saturating_sub(1),
+            1 => (needed + 2).min(32),
+            _ => needed,
+        };
+        let (n_out, n_scratch) = (room(lines, n / 2), room(lines, n));
+        let a = lines.random.samples(kind, n);
+        let given = Given {
+            words: vec![n_scratch as u32],
+            a,
+            out: vec![-77.25; n_out],
+            ..Given::default()
+        };
+        for which in [1, 2] {
+            let mut said = Said {
+                out: given.out.clone(),
+                ..Said::default()
+            };
+            said.code = match n {
+                0 | 1 | 2 | 4 | 8 | 16 | 32 => 2 * (n_out < n / 2 || which == 2 && n_scratch < n) as u32,
+                _ => 4,
+            };
+            if said.code == 0 {
+                over_sines(&given.a, &sines(n), &mut said.out);
+            }
+            lines.line(which, &given, &said);
+        }
+    }
+}
+
+fn quality(lines: &mut Lines) {
+    for _ in 0..200 {
+        let mut a = lines.list();
+        match lines.random.below(4) {
+            0 => (),
+            1 => a.iter_mut().for_each(|x| *x = x.abs() * 1e-12),
+            _ => a.iter_mut().for_each(|x| *x = x.abs()),
+        }
+        let bin = match lines.random.below(8) {
+            0 => 0,
+            1 => usize::MAX - lines.random.below(3) as usize,
+            2 => a.len(),
+            _ => 1 + lines.random.below(4) as usize,
+        };
+        let words = vec![(bin as u64 >> 32) as u32, bin as u32];
+        let floats = vec![signal::compute_thd_from_spectrum(&a, bin)];
+        let given = Given {
+            words,
+            a,
+            ..Given::default()
+        };
+        lines.line(
+            1,
+            &given,
+            &Said {
+                floats,
+                ..Said::default()
+            },
+        );
+        for (which, cut) in [(3, cut::cut_snr as fn(&[f32], usize) -> (u8, f64)), (4, cut::cut_sinad)] {
+            let (kind, wide) = cut(&given.a, bin);
+            lines.line(
+                which,
+                &given,
+                &Said {
+                    wide,
+                    floats: vec![kind as f32],
+                    ..Said::default()
+                },
+            );
+        }
+        let (kind, ratio) = cut::cut_sfdr(&given.a, bin);
+        lines.line(
+            5,
+            &given,
+            &Said {
+                floats: vec![kind as f32, ratio as f32],
+                ..Said::default()
+            },
+        );
+        let x = lines.random.sample(Kind::Mixed);
+        lines.float(2, x, signal::compute_enob(x));
+    }
+}
+
+fn generator(lines: &mut Lines) {
+    for _ in 0..300 {
+        let wave = wave(lines);
+        let n = lines.random.below(13) as usize;
+        let [amplitude, phase, duty] = [0; 3].map(|_| lines.setting());
+        let [phase, duty] = [
+            lines.random.pick(&[0.0, 90.0, phase]),
+            lines.random.pick(&[0.25, 0.5, duty]),
+        ];
+        let frequency = lines.random.pick(&[1.0, 2.0, n as f32 / 4.0, -1.0, phase]);
+        let out = lines.random.samples(Kind::Small, n);
+        let mut said = Said {
+            out: out.clone(),
+            ..Said::default()
+        };
+        Signal::tail_generate(wave_of(wave), amplitude, phase, frequency, duty, &mut said.out);
+        let mut words = vec![wave as u32];
+        words.extend([amplitude, phase, frequency, duty].iter().map(word));
+        lines.line(
+            1,
+            &Given {
+                words,
+                out,
                 ..Given::default()
             },
             &said,

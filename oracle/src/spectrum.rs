@@ -90,7 +90,7 @@ fn largest(samples: &[f32]) -> f64 {
 // ---------------------------------------------------------------------------- the Rust over other sines
 
 /// The Rust's loop, operation by operation, with the sine of place j of n from the list.
-fn over_sines(samples: &[f32], sines: &[f64], output: &mut [f32]) {
+pub fn over_sines(samples: &[f32], sines: &[f64], output: &mut [f32]) {
     let n = samples.len();
     let half = n / 2;
     for k in 0..half {

@@ -3,21 +3,18 @@
 // answered (said.rt), and that slice afterwards. Prints how many cases there were, and how many answers differ.
 use libc::STDOUT_FILENO;
 use said::Said;
-ghost use Prim.Native.Nat.{_<_, min};
-ghost use mathlib.Core.Path.{_≡_};
+ghost use Prim.Native.Nat.{_<_};
 
+mod of_figures;
+mod of_generator;
 mod of_number;
 mod of_power;
+mod of_quality;
 mod of_samples;
+mod of_spectrum;
 mod of_timing;
 mod read;
 mod said;
-
-fn least(a: usize, b: usize) -> usize
-    ensures { λ r. ⌜ r ≡ min a b ⌝ }
-{
-    if a < b { a } else { b }
-}
 
 // The call that a line names, on these slices.
 fn call(line: &[u8], a: &[f32], b: &[f32], out: &mut [f32]) -> Said {
@@ -27,6 +24,10 @@ fn call(line: &[u8], a: &[f32], b: &[f32], out: &mut [f32]) -> Said {
         2 => of_samples::call(line, which, a, b, out),
         3 => of_timing::call(line, which, a),
         4 => of_power::call(a, b),
+        5 => of_figures::call(line, a),
+        6 => of_spectrum::call(line, which, a, out),
+        7 => of_quality::call(line, which, a),
+        8 => of_generator::call(line, out),
         _ => said::nothing(),
     }
 }
@@ -41,9 +42,9 @@ fn on_parts(
     out: &mut [f32],
     n: usize,
 ) -> Said {
-    let na = least(na, a.len());
-    let nb = least(nb, b.len());
-    let n = least(n, out.len());
+    let na = read::least(na, a.len());
+    let nb = read::least(nb, b.len());
+    let n = read::least(n, out.len());
     let from = 0usize;
     call(line, &a[from..na], &b[from..nb], &mut out[from..n])
 }
@@ -96,7 +97,7 @@ fn replay(data: &[u8], before: Tally) -> Tally {
     let mut tally = before;
     let mut at = 0usize;
     while at < data.len() {
-        let end = at + least(size_of(&data[at..]), data.len() - at);
+        let end = at + read::least(size_of(&data[at..]), data.len() - at);
         tally = counted(tally, agrees(&data[at..end]));
         at = end;
     }
@@ -127,6 +128,10 @@ fn main() {
     let tally = file(b"samples", tally);
     let tally = file(b"timing", tally);
     let tally = file(b"power", tally);
+    let tally = file(b"figures", tally);
+    let tally = file(b"spectrum", tally);
+    let tally = file(b"quality", tally);
+    let tally = file(b"generator", tally);
     io::print_decimal(STDOUT_FILENO, tally.cases);
     io::write_all(STDOUT_FILENO, b" cases, ");
     io::print_decimal(STDOUT_FILENO, tally.differ);

@@ -1,6 +1,8 @@
 // A line's words, and the numbers made of them. A word is eight upper-case hexadecimal digits and one byte that is not looked at. A word past the end is 0,
 // so that every read is defined; a line that is cut then shows as a difference.
-ghost use Prim.Native.Nat.{_≤_, _<_};
+ghost use Prim.Native.Nat.{_≤_, _<_, min};
+ghost use mathlib.Core.Path.{_≡_};
+use generator::Wave;
 
 // The most places of a list.
 pub const ROOM: usize = 32;
@@ -42,6 +44,17 @@ pub fn count(line: &[u8], i: usize) -> usize
 {
     let n = word(line, i) as usize;
     if n < ROOM { n } else { ROOM }
+}
+
+pub fn least(a: usize, b: usize) -> usize
+    ensures { λ r. ⌜ r ≡ min a b ⌝ }
+{
+    if a < b { a } else { b }
+}
+
+// The wave with the number at word i.
+pub fn wave(line: &[u8], i: usize) -> Wave {
+    generator::wave_of((word(line, i) % 256) as u8)
 }
 
 // The f32 with these bits; any NaN for a NaN's.
