@@ -8,6 +8,7 @@ ghost use Prim.Native.Nat.{_<_};
 mod of_figures;
 mod of_generator;
 mod of_number;
+mod of_port;
 mod of_power;
 mod of_quality;
 mod of_samples;
@@ -28,6 +29,7 @@ fn call(line: &[u8], a: &[f32], b: &[f32], out: &mut [f32]) -> Said {
         6 => of_spectrum::call(line, which, a, out),
         7 => of_quality::call(line, which, a),
         8 => of_generator::call(line, out),
+        9 => of_port::call(line, which),
         _ => said::nothing(),
     }
 }
@@ -132,6 +134,7 @@ fn main() {
     let tally = file(b"spectrum", tally);
     let tally = file(b"quality", tally);
     let tally = file(b"generator", tally);
+    let tally = file(b"port", tally);
     io::print_decimal(STDOUT_FILENO, tally.cases);
     io::write_all(STDOUT_FILENO, b" cases, ");
     io::print_decimal(STDOUT_FILENO, tally.differ);

@@ -52,9 +52,14 @@ pub fn least(a: usize, b: usize) -> usize
     if a < b { a } else { b }
 }
 
+// The last byte of word i.
+pub fn byte(line: &[u8], i: usize) -> u8 {
+    (word(line, i) % 256) as u8
+}
+
 // The wave with the number at word i.
 pub fn wave(line: &[u8], i: usize) -> Wave {
-    generator::wave_of((word(line, i) % 256) as u8)
+    generator::wave_of(byte(line, i))
 }
 
 // The f32 with these bits; any NaN for a NaN's.
