@@ -2,3 +2,4 @@
 mod Saturating
 pub mod Orders
 mod Whole
+pub mod NotNumbers
