@@ -2,3 +2,4 @@
 pub mod NotNumbers
 pub mod BlockSums
 pub mod Refusals
+pub mod Incident
