@@ -46,8 +46,8 @@ module _ (xs : List Float) (j : ℕ) (e : getD xs j nan ≡ nan) (h : j < length
       let c = cosineOf (angleOf (length xs) bin k) in
       elim (decLe k j) [
         | yes g ↦
-          let m : k ≡ j = omega arith in
-          ap (λ (x : Float). add binary64 (sumsTo xs bin k .real) (mul binary64 x c)) (ap (λ (i : ℕ). getD xs i nan) m ∙ e) ∙ add-nan (sumsTo xs bin k .real)
+            let m : k ≡ j = omega arith in
+            ap (λ (x : Float). add binary64 (sumsTo xs bin k .real) (mul binary64 x c)) (ap (λ (i : ℕ). getD xs i nan) m ∙ e) ∙ add-nan (sumsTo xs bin k .real)
         | no g ↦ ap (λ (t : Float). add binary64 t (mul binary64 (getD xs k nan) c)) (real-nan bin k (omega arith))
       ]
 

@@ -29,8 +29,8 @@ module _ (xs : List Float) (j : ℕ) (e : getD xs j nan ≡ nan) where
   by-then (suc n) h =
       elim (decLe n j) [
         | yes l ↦
-          let m : n ≡ j = omega arith in
-          ap (λ (x : Float). over stillNumbers true xs n && not (isNan x)) (ap (λ (i : ℕ). getD xs i nan) m ∙ e) ∙ none (over stillNumbers true xs n)
+            let m : n ≡ j = omega arith in
+            ap (λ (x : Float). over stillNumbers true xs n && not (isNan x)) (ap (λ (i : ℕ). getD xs i nan) m ∙ e) ∙ none (over stillNumbers true xs n)
         | no l ↦ ap (λ (b : Bool). b && not (isNan (getD xs n nan))) (by-then n (omega arith))
       ]
     where
