@@ -1,0 +1,2 @@
+-- What the contract of `codes` cites. Assumes nothing.
+pub mod Codes
