@@ -12,7 +12,7 @@ use std::process::ExitCode;
 const DATA: &str = concat!(env!("CARGO_MANIFEST_DIR"), "/../crates/replay/data");
 
 /// The areas, by the number of 01's item: one file each.
-const AREAS: [(&str, fn(&mut Lines)); 9] = [
+const AREAS: [(&str, fn(&mut Lines)); 10] = [
     ("number", number),
     ("samples", samples),
     ("timing", timing),
@@ -22,6 +22,7 @@ const AREAS: [(&str, fn(&mut Lines)); 9] = [
     ("quality", quality),
     ("generator", generator),
     ("port", port),
+    ("signal", signals),
 ];
 
 /// The lines of one file, and the inputs' source.
@@ -553,6 +554,122 @@ fn port(lines: &mut Lines) {
             which,
             &Given {
                 words: given,
+                ..Given::default()
+            },
+            &said,
+        );
+    }
+}
+
+/// Step 10 of `calculate_metrics` over 01's sines.
+fn thd(samples: &[f32], frequency: f32, earlier: f32) -> f32 {
+    let half = samples.len() / 2;
+    let bin = libm::roundf(frequency * samples.len() as f32 / samples.len() as f32) as usize;
+    if half <= 1 || !(frequency > 0.0) || bin == 0 || bin >= half {
+        return earlier;
+    }
+    let mut magnitudes = vec![0.0; half];
+    over_sines(samples, &sines(samples.len()), &mut magnitudes);
+    let harmonics = (2..=16).map(|order| bin * order).take_while(|bin| *bin < half);
+    let power = harmonics
+        .map(|bin| magnitudes[bin] as f64 * magnitudes[bin] as f64)
+        .fold(0.0, |sum, x| sum + x);
+    match magnitudes[bin] > 1e-12 {
+        true => libm::sqrt(power) as f32 / magnitudes[bin] * 100.0,
+        false => earlier,
+    }
+}
+
+/// Puts 01's THD in place of the Rust's, after a call that measured.
+fn with_thd(signal: &mut Signal, earlier: f32) {
+    let mut metrics = signal.get_metrics();
+    metrics.thd = thd(signal.get_samples(), signal.tail_settings().frequency, earlier);
+    signal.tail_set_metrics(&metrics);
+    signal.set_voltage_thd(Some(metrics.thd));
+}
+
+/// What a signal shows: the metrics, the shape, and what of the port its calls set; an absent reading as -1.
+fn shown(signal: &Signal) -> Vec<f32> {
+    let (metrics, shape) = (signal.get_metrics(), signal.tail_settings());
+    let mut out = metrics.tail_time().to_vec();
+    out.extend([
+        metrics.thd,
+        shape.amplitude,
+        shape.phase,
+        shape.frequency,
+        shape.duty_cycle,
+    ]);
+    out.extend([signal.voltage(), signal.current(), signal.active_power()]);
+    let readings = [
+        signal.voltage_crest_factor(),
+        signal.voltage_thd(),
+        signal.power_factor(),
+        signal.apparent_power(),
+    ];
+    out.extend(readings.map(|r| r.unwrap_or(-1.0)));
+    out
+}
+
+/// A signal or a power port, and three settings. Off the grid every call is refused: 4, and all zero or absent.
+fn signals(lines: &mut Lines) {
+    for round in 0..300 {
+        let n = lines.random.pick(&[0, 1, 2, 4, 8, 8, 16, 16, 32, 3, 12]);
+        let out = lines.random.samples(Kind::Small, n);
+        let (wave, x) = (lines.random.below(4) as u8, lines.setting());
+        let mut samples = out.clone();
+        let which = 1 + (round % 6 == 0) as u32;
+        let (mut signal, mut words) = if which == 1 {
+            let frequency = match lines.random.below(4) {
+                0 => lines.setting(),
+                _ => (lines.random.unit() * n as f64 / 3.0) as f32,
+            };
+            let signal = Signal::new(wave_of(wave), x, frequency, &mut samples);
+            (signal, vec![wave as u32, word(&x), word(&frequency), 0])
+        } else {
+            let (current, frequency) = (lines.setting(), lines.random.pick(&[None, Some(50.0)]));
+            let signal = Signal::new_power_port(x, current, frequency, &mut samples);
+            (signal, [&[word(&x), word(&current)][..], &reading(frequency)].concat())
+        };
+        with_thd(&mut signal, 0.0);
+        for _ in 0..3 {
+            let (setting, earlier) = (
+                lines.random.below(if round % 4 == 0 { 4 } else { 3 }),
+                signal.get_metrics().thd,
+            );
+            let x = match lines.random.below(2) {
+                0 => lines.setting(),
+                _ => lines.random.unit() as f32 * if setting == 1 { 360.0 } else { 1.0 },
+            };
+            match setting {
+                1 => signal.set_phase(x),
+                2 => signal.set_duty_cycle(x),
+                3 => signal.reset_waveform(),
+                _ => (),
+            }
+            if setting == 1 || setting == 2 {
+                with_thd(&mut signal, earlier);
+            }
+            words.extend([setting as u32, word(&x)]);
+        }
+        let said = if n == 0 || n.is_power_of_two() {
+            Said {
+                floats: shown(&signal),
+                out: signal.get_samples().to_vec(),
+                ..Said::default()
+            }
+        } else {
+            Said {
+                code: 4,
+                floats: [[0.0; 27].to_vec(), vec![-1.0; 4]].concat(),
+                out: out.clone(),
+                ..Said::default()
+            }
+        };
+        lines.line(
+            which,
+            &Given {
+                words,
+                out,
                 ..Given::default()
             },
             &said,

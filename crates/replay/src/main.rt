@@ -12,6 +12,7 @@ mod of_port;
 mod of_power;
 mod of_quality;
 mod of_samples;
+mod of_signal;
 mod of_spectrum;
 mod of_timing;
 mod read;
@@ -30,6 +31,7 @@ fn call(line: &[u8], a: &[f32], b: &[f32], out: &mut [f32]) -> Said {
         7 => of_quality::call(line, which, a),
         8 => of_generator::call(line, out),
         9 => of_port::call(line, which),
+        10 => of_signal::call(line, which, out),
         _ => said::nothing(),
     }
 }
@@ -135,6 +137,7 @@ fn main() {
     let tally = file(b"quality", tally);
     let tally = file(b"generator", tally);
     let tally = file(b"port", tally);
+    let tally = file(b"signal", tally);
     io::print_decimal(STDOUT_FILENO, tally.cases);
     io::write_all(STDOUT_FILENO, b" cases, ");
     io::print_decimal(STDOUT_FILENO, tally.differ);
