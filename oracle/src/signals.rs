@@ -280,6 +280,7 @@ struct Checks {
     near: Check,
     kept: Check,
     silent: Check,
+    cleared: Check,
     refused: Check,
     refused_new: Check,
     /// The largest difference of THD where 01 claims one, in points.
@@ -297,6 +298,7 @@ impl Checks {
             near: log.check("THD within 0.05 points of the Rust's, where 01 claims it"),
             kept: log.check("THD as it was where the bin is unusable, the Rust's too"),
             silent: log.check("THD as it was at a usable bin on samples that are all 0, the Rust's too"),
+            cleared: log.check("THD after a reset: the Rust's"),
             refused: log.check("a refused call: its number, the state as it was, nothing written"),
             refused_new: log.check("a refused new or new_power_port: its number, the zero state, nothing written"),
             worst: 0.0,
@@ -403,9 +405,9 @@ impl Checks {
                     call.theirs(&mut signal);
                     state = answer.state;
                     match call {
-                        Call::Reset => {
-                            log.see32(self.thd, state.thd, signal.get_metrics().thd, || format!("{:?}", state))
-                        }
+                        Call::Reset => log.see32(self.cleared, state.thd, signal.get_metrics().thd, || {
+                            format!("{:?}", state)
+                        }),
                         _ => self.see_thd(log, earlier, &state, &signal),
                     }
                     self.see(log, answer.code, &state, &ours, &mut signal);
