@@ -7,11 +7,12 @@ use native.Mathlib.Omega.{arith}
 use native.Mathlib.Decide.{decLe}
 use lib.ListN.{length, getD}
 use lib.Ieee.{Float, nan, inf, fin, binary64, add, mul, div, lt}
+use Rattle.laws.specs.Literals.{tiny32}
 use Rattle.number.specs.Number.{narrow, root}
 use Rattle.quarter.specs.Turn.{cosineOf}
 use Rattle.spectrum.specs.declared.parts.Sums.{Sums}
 use Rattle.spectrum.specs.Bin.{angleOf, turned, sumsTo, sumsOf, sizeOf, magnitudeOf}
-use Rattle.distortion.specs.Thd.{binOf, usable, tiny, thdFrom, thdAt, thdOf}
+use Rattle.distortion.specs.Thd.{binOf, usable, thdFrom, thdAt, thdOf}
 
 add-nan : (x : Float) → add binary64 x nan ≡ nan
 unfolding add
@@ -32,7 +33,7 @@ size-nan s n e = rw e
 -- a fundamental that is a NaN isn't above 1e-12
 silent : (power earlier : Float) → thdFrom nan power earlier ≡ earlier
 unfolding thdFrom
-silent power earlier = rw (lt-nan tiny)
+silent power earlier = rw (lt-nan tiny32)
 
 -- the NaN is the sample at the place j
 module _ (xs : List Float) (j : ℕ) (e : getD xs j nan ≡ nan) (h : j < length xs) where

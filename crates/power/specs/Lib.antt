@@ -1,4 +1,3 @@
 -- What the contracts of `power` cite, and examples of it. Assumes nothing.
 pub mod Power
 pub mod Blocks
-pub mod Examples
