@@ -14,7 +14,7 @@ use port::Reading;
 use signal::Answer;
 use signal::Metrics;
 
-// The caller's samples, how the last call ended, and the state.
+// The caller's samples; how the last call on them ended, and the state.
 pub struct Signal<'a> {
     pub samples: &'a mut [f32],
     pub answer: Answer,
@@ -56,6 +56,7 @@ impl<'a> Signal<'a> {
         let next = signal::set_phase(state, phase, &mut *self.samples);
         self.answer = next;
     }
+
     // Another duty cycle, held between 0 and 1: the samples are generated and measured again.
     pub fn set_duty_cycle(&mut self, duty_cycle: f32)
         ensures { λ _. ⌜ now (self .exit) ≡ after (now (self .entry)) (dutySet highest (now (self .entry) .answer .state) «duty_cycle» (now (now (self .entry) .samples))) ⌝ }
