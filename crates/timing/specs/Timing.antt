@@ -58,9 +58,12 @@ frequencyOf xs rate = frequencyAbout (meanOf (totalOf xs) (length xs)) xs rate
 
 -- ---- slew rate
 
--- the larger of m and the size of a step from one sample to the next, over the time dt between them
+-- the size of a step from one sample to the next, over the time dt between them; and the larger of m and that
+abbrev pub slopeOf : Float → Float → Float → Float
+slopeOf dt prev curr = div binary32 (abs (sub binary32 curr prev)) dt
+
 unfoldable pub slewAt : Float → Float → ℕ → Float → Float → Float
-slewAt dt m i prev curr = higher m (div binary32 (abs (sub binary32 curr prev)) dt)
+slewAt dt m i prev curr = higher m (slopeOf dt prev curr)
 
 unfoldable pub steepestOf : Float → List Float → Float
 steepestOf dt xs = pairs (slewAt dt) zero32 xs (length xs - 1)

@@ -1,11 +1,12 @@
 // What frequency and slew rate are made of; the time figures are made of it too.
 ghost use mathlib.Core.Path.{_≡_};
 ghost use mathlib.Core.Bool.{cond};
-ghost use Prim.Native.Nat.{_+_, _≤_, _<_};
+ghost use Prim.Native.Nat.{_+_, _-_, _≤_, _<_};
 ghost use lib.ListN.{length};
 ghost use Rattle.answers.specs.Numbers.{longest};
-ghost use Rattle.laws.specs.Literals.{count32};
-ghost use Rattle.timing.specs.Timing.{totalOf, meanOf, risesAt, crossingsOf, frequencyFrom, frequencyAbout, slewAt, steepestOf, slewOf};
+ghost use Rattle.laws.specs.Literals.{zero32, count32};
+ghost use Rattle.laws.specs.Walks.{pairs};
+ghost use Rattle.timing.specs.Timing.{totalOf, meanOf, risesAt, crossingsOf, frequencyFrom, frequencyAbout, slopeOf, slewAt, steepestOf, slewOf};
 
 // A count as an f32, exactly.
 pub fn counted(n: usize) -> f32
@@ -129,11 +130,26 @@ pub fn frequency(samples: &[f32], mean: f32, rate: f32) -> f32
     frequency_from(s, rate)
 }
 
-// The larger of m and the slew rate from one sample to the next.
-fn steeper(dt: f32, m: f32, prev: f32, curr: f32) -> f32
-    ensures { λ r. ⌜ r ≡ slewAt dt m 0 prev curr ⌝ }
+// The slew rate from one sample to the next, dt apart.
+fn slope(dt: f32, prev: f32, curr: f32) -> f32
+    ensures { λ r. ⌜ r ≡ slopeOf dt prev curr ⌝ }
 {
-    number::parts::raised(m, number::abs32(curr - prev) / dt)
+    number::abs32(curr - prev) / dt
+}
+
+// The next place from here on that is steeper than m, or the end. (A search: no slew rate waits for the one before it.)
+fn next_steeper(samples: &[f32], dt: f32, m: f32, from: usize) -> usize
+    requires { ⌜ (1 ≤ from) × (from ≤ length (now samples)) × (m ≡ pairs (slewAt dt) zero32 (now samples) (from - 1)) ⌝ }
+    ensures { λ r. ⌜ (from ≤ r) × (r ≤ length (now (samples .entry))) × (m ≡ pairs (slewAt dt) zero32 (now (samples .entry)) (r - 1)) ⌝ }
+{
+    let mut i = from;
+    while i < samples.len() {
+        if slope(dt, samples[i - 1], samples[i]) > m {
+            return i;
+        }
+        i += 1;
+    }
+    i
 }
 
 // The largest slew rate over all neighbours, dt apart.
@@ -143,8 +159,8 @@ fn steepest(samples: &[f32], dt: f32) -> f32
     let mut m: f32 = 0.0;
     let mut i = 1usize;
     while i < samples.len() {
-        m = steeper(dt, m, samples[i - 1], samples[i]);
-        i += 1;
+        m = number::parts::raised(m, slope(dt, samples[i - 1], samples[i]));
+        i = next_steeper(samples, dt, m, i + 1);
     }
     m
 }
