@@ -1,8 +1,12 @@
 // The levels of the samples: extremes, means and RMS values.
 ghost use mathlib.Core.Path.{_≡_};
+ghost use mathlib.Core.Bool.{true, false};
 ghost use Prim.Native.Nat.{_≤_};
 ghost use lib.ListN.{length};
+ghost use lib.Ieee.{inf};
 ghost use Rattle.answers.specs.Numbers.{longest};
+ghost use Rattle.laws.specs.Samples.{higher, lower};
+ghost use Rattle.laws.specs.Walks.{over};
 ghost use Rattle.figures.specs.Levels.{extremesOf, sumsOf, rippleOf, levelsOf};
 use number::parts::lowered;
 use number::parts::raised;
@@ -11,6 +15,25 @@ use timing::parts::mean;
 pub struct Extremes {
     pub max: f32,
     pub min: f32,
+}
+
+// The next place from here on with a sample beyond the extremes, or the end. (A search: no sample waits for the one before it.)
+fn next_extreme(samples: &[f32], max: f32, min: f32, from: usize) -> usize
+    requires { ⌜ (from ≤ length (now samples)) × (max ≡ over higher (inf true) (now samples) from) × (min ≡ over lower (inf false) (now samples) from) ⌝ }
+    ensures { λ r. ⌜ (from ≤ r) × (r ≤ length (now (samples .entry))) × (max ≡ over higher (inf true) (now (samples .entry)) r) × (min ≡ over lower (inf false) (now (samples .entry)) r) ⌝ }
+{
+    let mut k = from;
+    while k < samples.len() {
+        let x = samples[k];
+        if max < x {
+            return k;
+        }
+        if x < min {
+            return k;
+        }
+        k += 1;
+    }
+    k
 }
 
 // From minus infinity and infinity: a NaN is no extreme.
@@ -23,7 +46,7 @@ fn find_extremes(samples: &[f32]) -> Extremes
     while k < samples.len() {
         max = raised(max, samples[k]);
         min = lowered(min, samples[k]);
-        k += 1;
+        k = next_extreme(samples, max, min, k + 1);
     }
     Extremes { max, min }
 }

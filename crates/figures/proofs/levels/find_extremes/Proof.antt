@@ -50,17 +50,22 @@ shared-slice-read-lowered c = search needs
 lowered-requires : tie.Need-lowered-requires Inv-loop μ-loop
 lowered-requires c κs = search needs
 
-add-k : tie.Need-add-k Inv-loop μ-loop
-add-k c = search needs
+add-next-extreme : tie.Need-add-next-extreme Inv-loop μ-loop
+add-next-extreme c = search needs
 
-loop-less : tie.Need-loop-less Inv-loop μ-loop
-loop-less c = search needs
-
-loop-again : tie.Need-loop-again Inv-loop μ-loop
-loop-again c =
+next-extreme-requires : tie.Need-next-extreme-requires Inv-loop μ-loop
+next-extreme-requires c κs =
     let l = c .before .before .before .before .before .loop in
     let xs = now (c .before .before .before .before .before .before .before .args .samples) in
     (omega arith, c .before .before .raised .ensures ∙ over-next higher (inf true) xs (l .k) (l .inv .1) refl, c .lowered .ensures ∙ over-next lower (inf false) xs (l .k) (l .inv .2) refl)
+
+loop-less : tie.Need-loop-less Inv-loop μ-loop
+loop-less c =
+    let e = c .next-extreme .ensures in
+    omega (arith, e .0, e .1)
+
+loop-again : tie.Need-loop-again Inv-loop μ-loop
+loop-again c = let e = c .next-extreme .ensures in (e .1, e .2, e .3)
 
 returns : tie.Need-returns Inv-loop μ-loop
 unfolding maxOf minOf
@@ -83,7 +88,8 @@ find-extremes-spec =
     mul-lowered
     shared-slice-read-lowered
     lowered-requires
-    add-k
+    add-next-extreme
+    next-extreme-requires
     loop-less
     loop-again
     returns)
