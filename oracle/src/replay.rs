@@ -3,6 +3,7 @@
 
 use crate::common::{edges32, edges64, Kind, Random, KINDS};
 use crate::generator::wave_of;
+use crate::lines;
 use crate::quality::cut;
 use crate::signal::{self, Signal, SignalMetrics, SignalType};
 use crate::spectrum::over_sines;
@@ -12,7 +13,7 @@ use std::process::ExitCode;
 const DATA: &str = concat!(env!("CARGO_MANIFEST_DIR"), "/../crates/replay/data");
 
 /// The areas, by the number of 01's item: one file each.
-const AREAS: [(&str, fn(&mut Lines)); 10] = [
+const AREAS: [(&str, fn(&mut Lines)); 11] = [
     ("number", number),
     ("samples", samples),
     ("timing", timing),
@@ -23,6 +24,7 @@ const AREAS: [(&str, fn(&mut Lines)); 10] = [
     ("generator", generator),
     ("port", port),
     ("signal", signals),
+    ("capture", capture),
 ];
 
 /// The lines of one file, and the inputs' source.
@@ -673,6 +675,112 @@ fn signals(lines: &mut Lines) {
                 ..Given::default()
             },
             &said,
+        );
+    }
+}
+
+/// A voltage and a current code in a word.
+fn pairs(volts: &[i16], amps: &[i16]) -> Vec<u32> {
+    let word = |(volt, amp): (&i16, &i16)| (*volt as u16 as u32) << 16 | *amp as u16 as u32;
+    volts.iter().zip(amps).map(word).collect()
+}
+
+/// Four bytes in a word; the last word is filled up with zeros.
+fn packed(text: &[u8]) -> Vec<u32> {
+    let at = |four: &[u8], k: usize| four.get(k).copied().unwrap_or(0);
+    text.chunks(4)
+        .map(|four| u32::from_be_bytes([0, 1, 2, 3].map(|k| at(four, k))))
+        .collect()
+}
+
+/// A capture of up to 20 pairs in a few lines, often spoiled in one place.
+fn text(random: &mut Random) -> Vec<u8> {
+    let mut number = random.pick(&[0, 1, 0xFFFE, 0xFFFF, 0x1234]);
+    let mut text = Vec::new();
+    for _ in 0..random.below(4) {
+        let most = random.pick(&[2, 4, 6]);
+        let pairs: Vec<lines::Pair> = (0..=random.below(most))
+            .map(|_| (random.bits() as i16, random.bits() as i16))
+            .collect();
+        text.extend(lines::line_of(number, &pairs));
+        number = number.wrapping_add(if random.below(8) == 0 { 2 } else { 1 });
+    }
+    if !text.is_empty() {
+        let at = random.below(text.len() as u64) as usize;
+        match random.below(12) {
+            0 => text[at] = random.pick(b"0F9A\nag G"),
+            1 => drop(text.remove(at)),
+            2 => text.insert(at, random.pick(b"0F\r\n ")),
+            3 => drop(text.pop()),
+            4 => text[at] = text[at].wrapping_add(1),
+            _ => (),
+        }
+    }
+    text.truncate(192);
+    text
+}
+
+/// Captures read and written by `lines`; the rooms have 20 places.
+fn capture(lines: &mut Lines) {
+    for _ in 0..250 {
+        let text = text(&mut lines.random);
+        let (mut volts, mut amps) = ([7; 20], [8; 20]);
+        let needed = lines::pairs_of(&text).map_or(3, |pairs| pairs.len() as u64);
+        let [nv, na] = [0; 2].map(|_| {
+            lines
+                .random
+                .pick(&[needed, needed, needed + 1, 20, 20, needed.max(1) - 1])
+                .min(20) as usize
+        });
+        let read = lines::read(&text, &mut volts[..nv], &mut amps[..na]);
+        let mut words = vec![text.len() as u32, nv as u32, na as u32];
+        words.extend(pairs(&volts, &amps));
+        words.extend(packed(&text));
+        let code = read.code as u32 + 16 * read.line as u32 + 65_536 * read.pairs as u32;
+        lines.line(
+            1,
+            &Given {
+                words,
+                ..Given::default()
+            },
+            &Said {
+                code,
+                ..Said::default()
+            },
+        );
+    }
+    for round in 0..150 {
+        let codes = [0; 40].map(|_| lines.random.bits() as i16);
+        let (volts, amps) = codes.split_at(20);
+        let nv = lines.random.below(21) as usize;
+        let na = if round % 10 == 0 {
+            lines.random.below(21) as usize
+        } else {
+            nv
+        };
+        let first = lines.random.pick(&[0, 7, 0xFFFF, 0xABCD]);
+        let mut text = [b'.'; 192];
+        let needed = lines::write(&volts[..nv], &amps[..na], first, &mut text).bytes;
+        let room = lines
+            .random
+            .pick(&[needed, needed, needed + 1, 192, needed.max(1) - 1])
+            .min(192);
+        text = [b'.'; 192];
+        let written = lines::write(&volts[..nv], &amps[..na], first, &mut text[..room]);
+        let mut words = vec![first as u32, room as u32, nv as u32, na as u32];
+        words.extend(pairs(volts, amps));
+        words.extend(packed(&text[..room]));
+        let code = written.code as u32 + 16 * written.bytes as u32;
+        lines.line(
+            2,
+            &Given {
+                words,
+                ..Given::default()
+            },
+            &Said {
+                code,
+                ..Said::default()
+            },
         );
     }
 }

@@ -5,6 +5,7 @@ use libc::STDOUT_FILENO;
 use said::Said;
 ghost use Prim.Native.Nat.{_<_};
 
+mod of_capture;
 mod of_figures;
 mod of_generator;
 mod of_number;
@@ -32,6 +33,7 @@ fn call(line: &[u8], a: &[f32], b: &[f32], out: &mut [f32]) -> Said {
         8 => of_generator::call(line, out),
         9 => of_port::call(line, which),
         10 => of_signal::call(line, which, out),
+        11 => of_capture::call(line, which),
         _ => said::nothing(),
     }
 }
@@ -55,7 +57,7 @@ fn on_parts(
 
 // Whether the library answers this line as the oracle did.
 fn agrees(line: &[u8]) -> bool {
-    let at_a = 4 + read::count(line, 3);
+    let at_a = 4 + read::words(line, 3);
     let na = read::count(line, at_a);
     let a = read::floats(line, at_a + 1);
     let at_b = at_a + 1 + na;
@@ -138,6 +140,7 @@ fn main() {
     let tally = file(b"generator", tally);
     let tally = file(b"port", tally);
     let tally = file(b"signal", tally);
+    let tally = file(b"capture", tally);
     io::print_decimal(STDOUT_FILENO, tally.cases);
     io::write_all(STDOUT_FILENO, b" cases, ");
     io::print_decimal(STDOUT_FILENO, tally.differ);

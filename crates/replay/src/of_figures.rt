@@ -4,32 +4,29 @@ use crate::read::ROOM;
 use crate::said;
 use crate::said::Said;
 use figures::TimeFigures;
-ghost use Prim.Native.Nat.{_<_};
 
-// The record from word i on.
-fn record(line: &[u8], i: usize) -> TimeFigures
-    requires { ⌜ i < 65536 ⌝ }
-{
+// The record from word 7 on.
+fn record(line: &[u8]) -> TimeFigures {
     TimeFigures {
-        peak_to_peak: read::float(line, i),
-        max: read::float(line, i + 1),
-        min: read::float(line, i + 2),
-        positive_peak: read::float(line, i + 3),
-        negative_peak: read::float(line, i + 4),
-        average: read::float(line, i + 5),
-        dc_rms: read::float(line, i + 6),
-        ac_rms: read::float(line, i + 7),
-        duty_cycle_pos: read::float(line, i + 8),
-        duty_cycle_neg: read::float(line, i + 9),
-        rise_time: read::float(line, i + 10),
-        fall_time: read::float(line, i + 11),
-        crest_factor: read::float(line, i + 12),
-        frequency: read::float(line, i + 13),
-        period: read::float(line, i + 14),
-        form_factor: read::float(line, i + 15),
-        overshoot: read::float(line, i + 16),
-        undershoot: read::float(line, i + 17),
-        slew_rate: read::float(line, i + 18),
+        peak_to_peak: read::float(line, 7),
+        max: read::float(line, 8),
+        min: read::float(line, 9),
+        positive_peak: read::float(line, 10),
+        negative_peak: read::float(line, 11),
+        average: read::float(line, 12),
+        dc_rms: read::float(line, 13),
+        ac_rms: read::float(line, 14),
+        duty_cycle_pos: read::float(line, 15),
+        duty_cycle_neg: read::float(line, 16),
+        rise_time: read::float(line, 17),
+        fall_time: read::float(line, 18),
+        crest_factor: read::float(line, 19),
+        frequency: read::float(line, 20),
+        period: read::float(line, 21),
+        form_factor: read::float(line, 22),
+        overshoot: read::float(line, 23),
+        undershoot: read::float(line, 24),
+        slew_rate: read::float(line, 25),
     }
 }
 
@@ -64,7 +61,7 @@ pub fn call(line: &[u8], a: &[f32]) -> Said {
         read::wave(line, 4),
         read::float(line, 5),
         read::float(line, 6),
-        record(line, 7),
+        record(line),
         a,
     );
     let outcome = r.outcome;

@@ -1,6 +1,7 @@
 // A line's words, and the numbers made of them. A word is eight upper-case hexadecimal digits and one byte that is not looked at. A word past the end is 0,
 // so that every read is defined; a line that is cut then shows as a difference.
-ghost use Prim.Native.Nat.{_≤_, _<_, min};
+ghost use Prim.Native.Nat.{_+_, _≤_, _<_, min};
+ghost use lib.ListN.{length};
 ghost use mathlib.Core.Path.{_≡_};
 use generator::Wave;
 
@@ -14,21 +15,23 @@ fn nibble(b: u8) -> u32
     (hex::digit(b) % 16) as u32
 }
 
+// The four digits from byte `at` on.
+fn half(line: &[u8], at: usize) -> u32
+    requires { ⌜ at + 4 ≤ length (now line) ⌝ }
+    ensures { λ r. ⌜ r < 65536 ⌝ }
+{
+    nibble(line[at]) * 0x1000
+        + nibble(line[at + 1]) * 0x100
+        + nibble(line[at + 2]) * 0x10
+        + nibble(line[at + 3])
+}
+
 // The word i.
 pub fn word(line: &[u8], i: usize) -> u32 {
     if line.len() / 9 <= i {
         return 0;
     }
-    let at = i * 9;
-    let high = nibble(line[at]) * 0x1000
-        + nibble(line[at + 1]) * 0x100
-        + nibble(line[at + 2]) * 0x10
-        + nibble(line[at + 3]);
-    let low = nibble(line[at + 4]) * 0x1000
-        + nibble(line[at + 5]) * 0x100
-        + nibble(line[at + 6]) * 0x10
-        + nibble(line[at + 7]);
-    high * 0x1_0000 + low
+    half(line, i * 9) * 0x1_0000 + half(line, i * 9 + 4)
 }
 
 // The words i and i + 1 as one number, the higher one first.
@@ -44,6 +47,14 @@ pub fn count(line: &[u8], i: usize) -> usize
 {
     let n = word(line, i) as usize;
     if n < ROOM { n } else { ROOM }
+}
+
+// How many numbers a call is given, at most 256.
+pub fn words(line: &[u8], i: usize) -> usize
+    ensures { λ r. ⌜ r ≤ 256 ⌝ }
+{
+    let n = word(line, i) as usize;
+    if n < 256 { n } else { 256 }
 }
 
 pub fn least(a: usize, b: usize) -> usize

@@ -11,13 +11,17 @@ pub struct Said {
     pub floats: [f32; ROOM],
 }
 
-// What is said of a call that has no number: never right.
-pub fn nothing() -> Said {
+pub fn code(code: u32) -> Said {
     Said {
-        code: 255,
+        code: code,
         wide: 0.0,
         floats: [0.0f32; ROOM],
     }
+}
+
+// What is said of a call that has no number: never right.
+pub fn nothing() -> Said {
+    code(255)
 }
 
 pub fn code_of(outcome: Outcome) -> u32 {
@@ -25,11 +29,7 @@ pub fn code_of(outcome: Outcome) -> u32 {
 }
 
 pub fn ended(outcome: Outcome) -> Said {
-    Said {
-        code: code_of(outcome),
-        wide: 0.0,
-        floats: [0.0f32; ROOM],
-    }
+    code(code_of(outcome))
 }
 
 pub fn float(x: f32) -> Said {
