@@ -1,6 +1,6 @@
 // Replays a sample of the oracle's answers. Each file of data/ has one case a line, in words (read.rt): how many words the line has; 01's item and which of its
-// calls; then three times a count and so many words, for the numbers and the two slices that the call is given, and a slice that it may write to; what it
-// answered (said.rt), and that slice afterwards. Prints how many cases there were, and how many answers differ.
+// calls; then four times a count and so many words, for the numbers that the call is given, two slices, and a slice that it may write to; what it answered
+// (said.rt), and that slice afterwards. Prints how many cases there were, and how many answers differ.
 use libc::STDOUT_FILENO;
 use said::Said;
 ghost use Prim.Native.Nat.{_<_};
