@@ -8,7 +8,7 @@ use lib.Dec.{eqb}
 use lib.ListN.{length}
 use lib.Ieee.{Float, lt}
 use Rattle.laws.specs.Filled.{filled}
-use Rattle.laws.specs.Literals.{zero32}
+use Rattle.laws.specs.Literals.{zero32, tiny32}
 use Rattle.laws.proofs.Filling.{filled-length}
 use Rattle.answers.specs.Numbers.{tooLong}
 use Rattle.answers.specs.declared.Outcome.the-variants.{Done}
@@ -17,7 +17,7 @@ use Rattle.generator.specs.Sample.{sampleAt, generated}
 use Rattle.spectrum.specs.Grid.{onGrid}
 use Rattle.spectrum.specs.Bin.{magnitudeOf}
 use Rattle.figures.specs.Figures.{figuresOf, answerOf}
-use Rattle.distortion.specs.Thd.{binOf, usable, tiny, thdOf, thdAt, thdFrom}
+use Rattle.distortion.specs.Thd.{binOf, usable, thdOf, thdAt, thdFrom}
 use Rattle.signal.specs.declared.State.{State}
 use Rattle.signal.specs.State.{withPhase, withDuty, measured, silenced}
 use Rattle.signal.specs.Calls.{Left, left, answer, judged, made, remade, resetOf}
@@ -186,12 +186,12 @@ pub thd-unusable : (top : ℕ) (frequency earlier : Float) (xs : List Float) →
 unfolding thdOf
 thd-unusable top frequency earlier xs u = rw u
 
-pub thd-silent : (top : ℕ) (frequency earlier : Float) (xs : List Float) → lt tiny (magnitudeOf xs (binOf frequency (length xs))) ≡ false
+pub thd-silent : (top : ℕ) (frequency earlier : Float) (xs : List Float) → lt tiny32 (magnitudeOf xs (binOf frequency (length xs))) ≡ false
     → usable frequency (length xs / 2) (binOf frequency (length xs)) ≡ true → thdOf top frequency earlier xs ≡ earlier
 unfolding thdOf thdAt thdFrom
 thd-silent top frequency earlier xs m u = rw (u, m)
 
-pub thd-heard : (top : ℕ) (frequency earlier other : Float) (xs : List Float) → lt tiny (magnitudeOf xs (binOf frequency (length xs))) ≡ true
+pub thd-heard : (top : ℕ) (frequency earlier other : Float) (xs : List Float) → lt tiny32 (magnitudeOf xs (binOf frequency (length xs))) ≡ true
     → usable frequency (length xs / 2) (binOf frequency (length xs)) ≡ true → thdOf top frequency earlier xs ≡ thdOf top frequency other xs
 unfolding thdOf thdAt thdFrom
 thd-heard top frequency earlier other xs m u = rw (u, m)
