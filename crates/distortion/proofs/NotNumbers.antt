@@ -8,23 +8,12 @@ use native.Mathlib.Decide.{decLe}
 use lib.ListN.{length, getD}
 use lib.Ieee.{Float, nan, inf, fin, binary64, add, mul, div, lt}
 use Rattle.laws.specs.Literals.{tiny32}
+use Rattle.laws.proofs.NotNumber.{add-nan, lt-nan}
 use Rattle.number.specs.Number.{narrow, root}
 use Rattle.quarter.specs.Turn.{cosineOf}
 use Rattle.spectrum.specs.declared.parts.Sums.{Sums}
 use Rattle.spectrum.specs.Bin.{angleOf, turned, sumsTo, sumsOf, sizeOf, magnitudeOf}
 use Rattle.distortion.specs.Thd.{binOf, usable, thdFrom, thdAt, thdOf}
-
-add-nan : (x : Float) → add binary64 x nan ≡ nan
-unfolding add
-add-nan nan = refl
-add-nan (inf s) = refl
-add-nan (fin s m e) = refl
-
-lt-nan : (x : Float) → lt x nan ≡ false
-unfolding lt
-lt-nan nan = refl
-lt-nan (inf s) = refl
-lt-nan (fin s m e) = refl
 
 size-nan : (s : Sums) (n : ℕ) → s .real ≡ nan → sizeOf s n ≡ nan
 unfolding sizeOf narrow root add mul div
@@ -48,7 +37,7 @@ module _ (xs : List Float) (j : ℕ) (e : getD xs j nan ≡ nan) (h : j < length
       elim (decLe k j) [
         | yes g ↦
             let m : k ≡ j = omega arith in
-            ap (λ (x : Float). add binary64 (sumsTo xs bin k .real) (mul binary64 x c)) (ap (λ (i : ℕ). getD xs i nan) m ∙ e) ∙ add-nan (sumsTo xs bin k .real)
+            ap (λ (x : Float). add binary64 (sumsTo xs bin k .real) (mul binary64 x c)) (ap (λ (i : ℕ). getD xs i nan) m ∙ e) ∙ add-nan binary64 (sumsTo xs bin k .real)
         | no g ↦ ap (λ (t : Float). add binary64 t (mul binary64 (getD xs k nan) c)) (real-nan bin k (omega arith))
       ]
 

@@ -12,7 +12,7 @@ use Rattle.laws.specs.Literals.{zero64}
 use Rattle.laws.specs.Walks.{over}
 use Rattle.number.specs.Number.{abs}
 use Rattle.figures.specs.Levels.{adding, sumOf}
-use Rattle.figures.specs.Unusual.{add-nan, nan-add}
+use Rattle.laws.proofs.NotNumber.{add-nan, nan-add}
 
 module _ (f : Float → Float) (xs : List Float) (k : ℕ) (e : f (getD xs k nan) ≡ nan) where
   by-then : (n : ℕ) → k < n → over (adding f) zero64 xs n ≡ nan

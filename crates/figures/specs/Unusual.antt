@@ -11,6 +11,7 @@ use Rattle.generator.specs.declared.Wave.the-variants.{DC, PWM, Triangular, Saw
 use Rattle.laws.specs.Literals.{zero32, zero64, count32}
 use Rattle.laws.specs.Samples.{higher, lower}
 use Rattle.laws.specs.Walks.{over, pairs}
+use Rattle.laws.proofs.NotNumber.{add-nan, nan-add, sub-nan, nan-sub, lt-nan, nan-lt, le-nan, nan-le}
 use Rattle.number.specs.Number.{narrow, root, abs}
 use Rattle.timing.specs.Timing.{totalOf, meanOf, risesAt, crossingAt, noCrossing, crossingsOf, frequencyFrom, frequencyAbout, slewAt, steepestOf, slewOf}
 use Rattle.figures.specs.declared.edges.Edges.{Edges}
@@ -19,45 +20,6 @@ use Rattle.figures.specs.Duty.{millionth, near, isHigh, tally, highsOf}
 use Rattle.figures.specs.Edges.{noEdge, riseBegins, riseCounts, fallBegins, fallCounts, edgeAt, edgesOf}
 use Rattle.figures.specs.Ratios.{ratioOf, crestOf, periodOf, excessOf}
 use Rattle.figures.specs.Figures.{peakToPeakOf, positivePeakOf, negativePeakOf, crestFactorOf, formFactorOf, hertzOf, slewRateOf, overshootOf, undershootOf}
-
--- ---- a NaN in an operation, and in a comparison
-pub add-nan : (f : Format) (x : Float) → add f x nan ≡ nan
-unfolding add
-add-nan f nan = refl
-add-nan f (inf s) = refl
-add-nan f (fin s m e) = refl
-
-pub nan-add : (f : Format) (x : Float) → add f nan x ≡ nan
-unfolding add
-nan-add f x = refl
-
-sub-nan : (f : Format) (x : Float) → sub f x nan ≡ nan
-unfolding sub neg
-sub-nan f x = add-nan f x
-
-nan-sub : (f : Format) (x : Float) → sub f nan x ≡ nan
-unfolding sub
-nan-sub f x = nan-add f (neg x)
-
-lt-nan : (x : Float) → lt x nan ≡ false
-unfolding lt
-lt-nan nan = refl
-lt-nan (inf s) = refl
-lt-nan (fin s m e) = refl
-
-nan-lt : (x : Float) → lt nan x ≡ false
-unfolding lt
-nan-lt x = refl
-
-le-nan : (x : Float) → le x nan ≡ false
-unfolding le lt eq
-le-nan nan = refl
-le-nan (inf s) = refl
-le-nan (fin s m e) = refl
-
-nan-le : (x : Float) → le nan x ≡ false
-unfolding le lt eq
-nan-le x = refl
 
 and-false : (b : Bool) → (b && false) ≡ false
 and-false true = refl

@@ -13,3 +13,4 @@ pub mod Filling
 pub mod Tested
 pub mod Stores
 pub mod Harmonics
+pub mod NotNumber

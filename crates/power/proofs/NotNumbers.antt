@@ -8,40 +8,13 @@ use lib.ListN.{length, getD}
 use lib.Ieee.{Float, nan, inf, fin, Format, binary32, binary64, isNan, add, sub, mul, div, lt, ofBits}
 use Rattle.laws.specs.Walks.{over}
 use Rattle.laws.specs.Samples.{stillNumbers, allNumbers}
+use Rattle.laws.proofs.NotNumber.{tested-nan, add-nan, nan-add, mul-nan, nan-mul}
 use Rattle.number.specs.Number.{narrow, root}
 use Rattle.power.specs.declared.parts.Sums.{Sums}
 use Rattle.power.specs.declared.Power.{Power}
 use Rattle.power.specs.Power.{sumTo, sumsTo, meanOf, activeOf, narrowedRoot, apparentOf, factorOf, aboveZero, reactiveOf, recordWith, recordOf, nanPower}
 
--- ---- in an operation
-add-nan : (f : Format) (x : Float) → add f x nan ≡ nan
-unfolding add
-add-nan f nan = refl
-add-nan f (inf s) = refl
-add-nan f (fin s m e) = refl
-
-nan-add : (f : Format) (x : Float) → add f nan x ≡ nan
-unfolding add
-nan-add f x = refl
-
-mul-nan : (f : Format) (x : Float) → mul f x nan ≡ nan
-unfolding mul
-mul-nan f nan = refl
-mul-nan f (inf s) = refl
-mul-nan f (fin s m e) = refl
-
-nan-mul : (f : Format) (x : Float) → mul f nan x ≡ nan
-unfolding mul
-nan-mul f x = refl
-
--- ---- in a sum
-is-nan : (x : Float) → not (isNan x) ≡ false → x ≡ nan
-unfolding isNan
-is-nan nan e = refl
-is-nan (inf s) e = absurd (subst T e tt)
-is-nan (fin s m d) e = absurd (subst T e tt)
-
--- of x with any other samples, on either side
+-- ---- in a sum: of x with any other samples, on either side
 pub sum-nan : (x y : List Float) (n : ℕ) → over stillNumbers true x n ≡ false → (sumTo x y n ≡ nan) × (sumTo y x n ≡ nan)
 unfolding over stillNumbers sumTo
 sum-nan x y zero e = absurd (subst T e tt)
@@ -49,7 +22,7 @@ sum-nan x y (suc n) e = go (over stillNumbers true x n) (sumTo x y n) (sumTo y x
   where
     go : (t : Bool) (a b u w : Float) → (t && not (isNan u)) ≡ false → (t ≡ false → (a ≡ nan) × (b ≡ nan)) → (add binary64 a (mul binary64 u w) ≡ nan) × (add binary64 b (mul binary64 w u) ≡ nan)
     go false a b u w e h = let p = h refl in (rw (p .0) (nan-add binary64 _), rw (p .1) (nan-add binary64 _))
-    go true a b u w e h = let q = is-nan u e in (rw (q, nan-mul binary64 w) (add-nan binary64 a), rw (q, mul-nan binary64 w) (add-nan binary64 b))
+    go true a b u w e h = let q = tested-nan u e in (rw (q, nan-mul binary64 w) (add-nan binary64 a), rw (q, mul-nan binary64 w) (add-nan binary64 b))
 
 -- ---- in the record
 both-nan : recordWith nan nan ≡ nanPower
