@@ -1,5 +1,6 @@
 #!/usr/bin/env bash
 # Measures the static library beside the published Rust, after all set-up: bash oracle/bench.sh [AREA..]
+# Without an area all are measured, and their rows take the place of the table in docs/BENCHMARKS.md.
 # On a machine that is not x86-64 both are built for that machine (here.sh): a time under an emulator says nothing.
 set -euo pipefail
 cd "$(dirname "$0")"
@@ -8,4 +9,12 @@ here=
 export here
 ./setup.sh
 . ./env.sh
-oracle bench "$@"
+oracle bench "$@" | tee gen/table.md
+[ $# = 0 ] || exit 0
+page=../docs/BENCHMARKS.md
+awk -v table=gen/table.md '
+  /^<!-- end of the table -->$/ { within = 0 }
+  !within { print }
+  /^<!-- the table/ { within = 1; while ((getline row < table) > 0) print row }
+' "$page" > gen/page.md
+cp gen/page.md "$page"
