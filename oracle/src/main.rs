@@ -11,7 +11,6 @@ mod common;
 mod fuzz;
 mod lines;
 mod mutate;
-mod lines;
 mod replay;
 #[path = "../gen/signal.rs"]
 mod signal;

@@ -1,0 +1,38 @@
+/* A probe's main loop in small: a capture is read, its power worked out, its voltage timed and a bad line named.
+ * bash examples/run.sh builds the library, compiles this with -Wall -Wextra -Werror and runs it. */
+#include "tilljingle.h"
+
+#include <stdio.h>
+#include <string.h>
+
+#define ROOM 64
+
+/* volts and amps of a capture, and how many there are; 0 where it was refused, and then the refusal is printed */
+static size_t pairs_of(const char *text, int16_t *volts, int16_t *amps) {
+  tj_read read = tj_read_capture((const uint8_t *)text, strlen(text), volts, ROOM, amps, ROOM);
+  if (read.code != 0)
+    printf("refused %u at line %zu\n", (unsigned)read.code, read.line);
+  return read.pairs;
+}
+
+int main(void) {
+  int16_t volts[ROOM], amps[ROOM];
+  float voltage[ROOM], current[ROOM];
+  size_t n = pairs_of("00010200640032FF9CFFCEFF\n", volts, amps);
+  for (size_t i = 0; i < n; i++) {
+    voltage[i] = volts[i];
+    current[i] = amps[i];
+  }
+  tj_power_answer power = tj_compute_power(voltage, n, current, n, 1000.0f);
+  tj_figure slew = tj_slew_rate(voltage, n, 1000.0f);
+  printf("%zu pairs, p %g q %g s %g pf %g, slew rate %g\n", n, (double)power.power.p, (double)power.power.q,
+         (double)power.power.s, (double)power.power.pf, (double)slew.value);
+
+  pairs_of("00010200640032FF9CFFCEFE\n", volts, amps); /* its sum is wrong */
+
+  float samples[16];
+  tj_signal_answer signal = tj_signal_new(1, 5.0f, 2.0f, samples, 16);
+  signal = tj_signal_set_duty_cycle(signal.signal, 0.25f, samples, 16);
+  printf("duty cycle %g of amplitude %g\n", (double)signal.signal.figures.duty_cycle_pos, (double)signal.signal.amplitude);
+  return signal.code;
+}

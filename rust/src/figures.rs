@@ -1,0 +1,115 @@
+//! Power, frequency, slew rate and the time figures: calls that read samples and answer numbers.
+
+use crate::{answered, raw, Refusal, Wave};
+
+/// Active, reactive and apparent power, and the power factor.
+#[derive(Clone, Copy, Debug, Default, PartialEq)]
+#[repr(C)]
+pub struct Power {
+    /// Active power: the mean of voltage times current.
+    pub p: f32,
+    /// Reactive power: the root of s² - p².
+    pub q: f32,
+    /// Apparent power: the product of the root mean squares.
+    pub s: f32,
+    /// The power factor, p / s.
+    pub pf: f32,
+}
+
+/// The 19 time figures, in the order of the Rust's `SignalMetrics`.
+#[derive(Clone, Copy, Debug, Default, PartialEq)]
+#[repr(C)]
+pub struct TimeFigures {
+    /// Largest less smallest sample.
+    pub peak_to_peak: f32,
+    /// Largest sample; a NaN never is.
+    pub max: f32,
+    /// Smallest sample; a NaN never is.
+    pub min: f32,
+    /// Largest excursion above the average.
+    pub positive_peak: f32,
+    /// Largest excursion below the average, as a size.
+    pub negative_peak: f32,
+    /// The average.
+    pub average: f32,
+    /// The root mean square.
+    pub dc_rms: f32,
+    /// The root mean square of the distances from the average.
+    pub ac_rms: f32,
+    /// Share of the samples that are high.
+    pub duty_cycle_pos: f32,
+    /// The other samples' share.
+    pub duty_cycle_neg: f32,
+    /// Samples of the last rise from a tenth to nine tenths.
+    pub rise_time: f32,
+    /// Samples of the last fall.
+    pub fall_time: f32,
+    /// Peak over root mean square.
+    pub crest_factor: f32,
+    /// Frequency by rising crossings of the average.
+    pub frequency: f32,
+    /// One over the frequency.
+    pub period: f32,
+    /// Root mean square over the mean size.
+    pub form_factor: f32,
+    /// Percent above the amplitude.
+    pub overshoot: f32,
+    /// Percent below the negative amplitude.
+    pub undershoot: f32,
+    /// Largest step between neighbours times the rate.
+    pub slew_rate: f32,
+}
+
+/// The frequency by rising crossings of the mean; 0 under two crossings. [`Refusal::TooLong`] past 65,536 samples.
+///
+/// ```
+/// assert_eq!(tilljingle::measure_frequency(&[-1.0, 1.0, -1.0, 1.0, -1.0, 1.0], 6.0), Ok(3.0));
+/// ```
+pub fn measure_frequency(samples: &[f32], sample_rate: f32) -> Result<f32, Refusal> {
+    let answer = unsafe { raw::tj_measure_frequency(samples.as_ptr(), samples.len(), sample_rate) };
+    answered(answer.code, answer.value)
+}
+
+/// The largest step between neighbours, times the rate. [`Refusal::TooLong`] past 65,536 samples.
+///
+/// ```
+/// assert_eq!(tilljingle::slew_rate(&[0.0, 3.0, 1.0], 2.0), Ok(6.0));
+/// ```
+pub fn slew_rate(samples: &[f32], sample_rate: f32) -> Result<f32, Refusal> {
+    let answer = unsafe { raw::tj_slew_rate(samples.as_ptr(), samples.len(), sample_rate) };
+    answered(answer.code, answer.value)
+}
+
+/// Power of a voltage and a current capture. For captures of 16-bit codes the figures are proved to be within document 01's bounds of the exact ones;
+/// a NaN sample gives NaN for p and s and 0 for q and pf. [`Refusal::TooLong`], then [`Refusal::LengthsDiffer`].
+///
+/// ```
+/// use tilljingle::{compute_power, Power, Refusal};
+/// assert_eq!(compute_power(&[3.0], &[-3.0], 1.0), Ok(Power { p: -9.0, q: 0.0, s: 9.0, pf: -1.0 }));
+/// assert_eq!(compute_power(&[1.0, 2.0], &[1.0], 1.0), Err(Refusal::LengthsDiffer));
+/// ```
+pub fn compute_power(voltage: &[f32], current: &[f32], sample_rate: f32) -> Result<Power, Refusal> {
+    let answer = unsafe {
+        raw::tj_compute_power(
+            voltage.as_ptr(),
+            voltage.len(),
+            current.as_ptr(),
+            current.len(),
+            sample_rate,
+        )
+    };
+    answered(answer.code, answer.power)
+}
+
+/// The 19 time figures of samples; no samples give the earlier record back. [`Refusal::TooLong`] past 65,536 samples.
+pub fn calculate_time_figures(
+    wave: Wave,
+    amplitude: f32,
+    frequency: f32,
+    earlier: TimeFigures,
+    samples: &[f32],
+) -> Result<TimeFigures, Refusal> {
+    let (place, n) = (samples.as_ptr(), samples.len());
+    let answer = unsafe { raw::tj_calculate_time_figures(wave as u8, amplitude, frequency, earlier, place, n) };
+    answered(answer.code, answer.figures)
+}

@@ -1,0 +1,95 @@
+//! The examples of the Rust's doc comments that lie in document 01's domain, and 01's own.
+//! A `Signal` of 1,000 samples, as the Rust's comments have it, is off the grid here: it is refused, and the example runs on 1,024.
+
+use tilljingle::*;
+
+#[test]
+fn a_thousand_samples_are_off_the_grid() {
+    let mut samples = [3.0; 1000];
+    assert!(matches!(
+        Signal::new(Wave::DC, 5.0, 0.0, &mut samples),
+        Err(Refusal::OffGrid)
+    ));
+    assert_eq!(samples, [3.0; 1000]);
+}
+
+#[test]
+fn direct_current() {
+    let mut samples = [0.0; 1024];
+    let signal = Signal::new(Wave::DC, 5.0, 0.0, &mut samples).unwrap();
+    let metrics = signal.get_metrics().figures;
+    assert_eq!(metrics.max, 5.0);
+    assert_eq!(metrics.min, 5.0);
+    assert_eq!(metrics.average, 5.0);
+    assert_eq!(metrics.dc_rms, 5.0);
+    assert_eq!(signal.get_samples().len(), 1024);
+}
+
+#[test]
+fn pulses_of_a_quarter() {
+    let mut samples = [0.0; 1024];
+    let mut signal = Signal::new(Wave::PWM, 5.0, 1000.0, &mut samples).unwrap();
+    signal.set_duty_cycle(0.25).unwrap();
+    let metrics = signal.get_metrics().figures;
+    assert!((metrics.duty_cycle_pos - 0.25).abs() < 0.01);
+    assert!((metrics.average - 1.25).abs() < 0.1);
+}
+
+#[test]
+fn frequency_of_a_sine() {
+    let samples: Vec<f32> = (0..1000)
+        .map(|i| (2.0 * std::f32::consts::PI * 5.0 * i as f32 / 1000.0).sin())
+        .collect();
+    assert!((measure_frequency(&samples, 1000.0).unwrap() - 5.0).abs() < 0.5);
+}
+
+#[test]
+fn a_capture_there_and_back() {
+    let (volts, amps) = ([100, -32768, 7], [-1, 32767, 0]);
+    let mut text = [0; 64];
+    let bytes = write_capture(&volts, &amps, 65535, &mut text).unwrap();
+    let (mut v, mut a) = ([0; 3], [0; 3]);
+    assert_eq!(read_capture(&text[..bytes], &mut v, &mut a), Ok(3));
+    assert_eq!((v, a), (volts, amps));
+    assert_eq!(
+        read_capture(&text[..bytes], &mut v[..2], &mut a),
+        Err(BadCapture {
+            refusal: Refusal::OutputShort,
+            line: 0
+        })
+    );
+}
+
+#[test]
+fn the_report() {
+    let mut text = [0; 128];
+    let bytes = report_text(b"00010200640032FF9CFFCEFF\n", &mut text).unwrap();
+    assert_eq!(
+        &text[..bytes],
+        b"PAIRS 2\nP 459C4000\nQ 00000000\nS 459C4000\nPF 3F800000\n"
+    );
+    assert_eq!(report_text(b"", &mut text[..8]), Err(Refusal::OutputShort));
+}
+
+#[test]
+fn port_readings() {
+    let mut samples = [0.0; 16];
+    let mut signal = Signal::new_power_port(230.0, 10.0, Some(50.0), &mut samples).unwrap();
+    assert_eq!(signal.port().instantaneous_power(), 2300.0);
+    assert_eq!(Option::<f32>::from(signal.port().frequency), Some(50.0));
+    signal.port_mut().set_voltage_harmonic(3, Some(1.5));
+    signal.port_mut().set_voltage_harmonic(16, Some(9.0));
+    assert_eq!(signal.port().voltage_harmonic(3), Some(1.5));
+    assert_eq!(signal.port().voltage_harmonic(16), None);
+}
+
+#[test]
+fn a_brown_out_is_named() {
+    let blown = f32::from_bits(u32::MAX);
+    let power = compute_power(&[blown], &[1.0], 1.0).unwrap();
+    assert!(power.p.is_nan() && power.s.is_nan());
+    assert_eq!((power.q, power.pf), (0.0, 0.0));
+    let mut samples = vec![1.0; 65_537];
+    assert_eq!(scale(&mut samples, 2.0), Err(Refusal::TooLong));
+    assert!(samples.iter().all(|&x| x == 1.0));
+}
