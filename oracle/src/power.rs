@@ -32,10 +32,15 @@ extern "C" {
         ni: usize,
         sample_rate: f32,
     ) -> PowerAnswer;
+    fn tj_power_of_codes(volts: *const i16, nv: usize, amps: *const i16, na: usize) -> PowerAnswer;
 }
 
 fn ours(voltage: &[f32], current: &[f32], rate: f32) -> PowerAnswer {
     unsafe { tj_compute_power(voltage.as_ptr(), voltage.len(), current.as_ptr(), current.len(), rate) }
+}
+
+fn of_codes(volts: &[i16], amps: &[i16]) -> PowerAnswer {
+    unsafe { tj_power_of_codes(volts.as_ptr(), volts.len(), amps.as_ptr(), amps.len()) }
 }
 
 impl Power {
@@ -61,14 +66,16 @@ fn see(log: &mut Log, check: Check, voltage: &[f32], current: &[f32], rate: f32)
     });
 }
 
-/// A refusal: its code, and a record that is zero throughout.
+/// A refusal, of samples and of codes: its code, and a record that is zero throughout.
 fn see_refused(log: &mut Log, check: Check, nv: usize, ni: usize, code: u8) {
     let (voltage, current) = (vec![1.0f32; nv], vec![1.0f32; ni]);
-    let answer = ours(&voltage, &current, 1.0);
-    let zero = answer.power.list().iter().all(|x| x.to_bits() == 0);
-    log.see(check, answer.code == code && zero, || {
-        format!("{} and {}: {:?}", nv, ni, answer)
-    });
+    let (volts, amps) = (vec![1i16; nv], vec![1i16; ni]);
+    for answer in [ours(&voltage, &current, 1.0), of_codes(&volts, &amps)] {
+        let zero = answer.power.list().iter().all(|x| x.to_bits() == 0);
+        log.see(check, answer.code == code && zero, || {
+            format!("{} and {}: {:?}", nv, ni, answer)
+        });
+    }
 }
 
 fn length(random: &mut Random) -> usize {
@@ -379,6 +386,7 @@ fn bounds(rounds: u64, log: &mut Log) {
         log.check("codes: pf² V I within W² / 2^20 of W²"),
         log.check("codes: pf with the sign of W, at most 1 + 1 / 2^21"),
     ];
+    let same = log.check("power_of_codes, against compute_power of the codes as f32");
     let mut worst = [0.0; 5];
     let mut random = Random::new(44);
     for round in 0..rounds {
@@ -386,6 +394,11 @@ fn bounds(rounds: u64, log: &mut Log) {
         let voltage: Vec<f32> = volts.iter().map(|x| *x as f32).collect();
         let current: Vec<f32> = amps.iter().map(|x| *x as f32).collect();
         let answer = ours(&voltage, &current, 1.0);
+        let (p, q, s, pf) = compute_power(&voltage, &current, 1.0);
+        let coded = of_codes(&volts, &amps);
+        log.see(same, coded.code == 0 && all_same32(&coded.power.list(), &[p, q, s, pf]), || {
+            format!("{} and {}: {:?}", list32(&voltage), list32(&current), coded)
+        });
         let held = sentences(&volts, &amps, answer.power, &mut worst);
         for (check, holds) in checks.iter().zip(held) {
             log.see(*check, holds && answer.code == 0, || {
@@ -411,6 +424,21 @@ pub fn bench(table: &mut Table) {
             },
             || {
                 black_box(ours(black_box(&voltage), black_box(&current), 1.0));
+            },
+        );
+        let (volts, amps): (Vec<i16>, Vec<i16>) = voltage.iter().zip(&current).map(|(v, i)| (*v as i16, *i as i16)).unzip();
+        let (mut v, mut i) = (voltage.clone(), current.clone());
+        table.row(
+            "power_of_codes, against the codes cast into buffers and compute_power",
+            n,
+            || {
+                let cast = |codes: &[i16], to: &mut [f32]| codes.iter().zip(to).for_each(|(c, x)| *x = *c as f32);
+                cast(black_box(&volts), &mut v);
+                cast(black_box(&amps), &mut i);
+                black_box(compute_power(black_box(&v), black_box(&i), 1.0));
+            },
+            || {
+                black_box(of_codes(black_box(&volts), black_box(&amps)));
             },
         );
     }

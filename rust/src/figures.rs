@@ -101,6 +101,17 @@ pub fn compute_power(voltage: &[f32], current: &[f32], sample_rate: f32) -> Resu
     answered(answer.code, answer.power)
 }
 
+/// What [`compute_power`] answers for the codes as `f32`, without a buffer for them; the contract has document 01's bounds in it.
+///
+/// ```
+/// use tilljingle::{power_of_codes, Power};
+/// assert_eq!(power_of_codes(&[3], &[-3]), Ok(Power { p: -9.0, q: 0.0, s: 9.0, pf: -1.0 }));
+/// ```
+pub fn power_of_codes(volts: &[i16], amps: &[i16]) -> Result<Power, Refusal> {
+    let answer = unsafe { raw::tj_power_of_codes(volts.as_ptr(), volts.len(), amps.as_ptr(), amps.len()) };
+    answered(answer.code, answer.power)
+}
+
 /// The 19 time figures of samples; no samples give the earlier record back. [`Refusal::TooLong`] past 65,536 samples.
 pub fn calculate_time_figures(
     wave: Wave,

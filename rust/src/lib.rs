@@ -15,7 +15,9 @@ mod samples;
 mod signal;
 
 pub use capture::{read_capture, report_text, write_capture, BadCapture};
-pub use figures::{calculate_time_figures, compute_power, measure_frequency, slew_rate, Power, TimeFigures};
+pub use figures::{
+    calculate_time_figures, compute_power, measure_frequency, power_of_codes, slew_rate, Power, TimeFigures,
+};
 pub use number::{abs32, narrow, round32, sqrt32, sqrt64};
 pub use port::{Port, Reading};
 pub use quality::{

@@ -67,6 +67,7 @@ extern "C" {
         ni: usize,
         sample_rate: f32,
     ) -> PowerAnswer;
+    pub fn tj_power_of_codes(volts: *const i16, nv: usize, amps: *const i16, na: usize) -> PowerAnswer;
 
     pub fn tj_calculate_time_figures(
         wave: u8,

@@ -2,3 +2,4 @@
 pub mod Powers
 pub mod Quality
 pub mod Kinds
+pub mod Shown
