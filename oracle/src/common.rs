@@ -394,14 +394,9 @@ impl Table {
             our_best = our_best.min(time(&mut ours, our_repeats));
         }
         let (their_ns, our_ns) = (their_best / calls as f64, our_best / calls as f64);
-        println!(
-            "| {} | {} | {:.1} | {:.1} | {:.2} |",
-            call,
-            n,
-            their_ns,
-            our_ns,
-            our_ns / their_ns
-        );
+        let ratio = our_ns / their_ns;
+        let shown = if ratio < 0.1 { format!("1/{:.0}", ratio.recip()) } else { format!("{:.2}", ratio) };
+        println!("| {} | {} | {:.1} | {:.1} | {} |", call, n, their_ns, our_ns, shown);
     }
 }
 
