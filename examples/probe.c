@@ -7,7 +7,7 @@
 
 #define ROOM 64
 
-/* volts and amps of a capture, and how many there are; 0 where it was refused, and then the refusal is printed */
+/* volts and amps of a capture, and how many there are: none where it was refused, and then the refusal is printed */
 static size_t pairs_of(const char *text, int16_t *volts, int16_t *amps) {
   tj_read read = tj_read_capture((const uint8_t *)text, strlen(text), volts, ROOM, amps, ROOM);
   if (read.code != 0)
@@ -25,6 +25,8 @@ int main(void) {
   }
   tj_power_answer power = tj_compute_power(voltage, n, current, n, 1000.0f);
   tj_figure slew = tj_slew_rate(voltage, n, 1000.0f);
+  if (power.code != 0 || slew.code != 0)
+    return 1;
   printf("%zu pairs, p %g q %g s %g pf %g, slew rate %g\n", n, (double)power.power.p, (double)power.power.q,
          (double)power.power.s, (double)power.power.pf, (double)slew.value);
 
@@ -32,6 +34,8 @@ int main(void) {
 
   float samples[16];
   tj_signal_answer signal = tj_signal_new(1, 5.0f, 2.0f, samples, 16);
+  if (signal.code != 0)
+    return 1;
   signal = tj_signal_set_duty_cycle(signal.signal, 0.25f, samples, 16);
   printf("duty cycle %g of amplitude %g\n", (double)signal.signal.figures.duty_cycle_pos, (double)signal.signal.amplitude);
   return signal.code;

@@ -7,7 +7,7 @@ fn main() {
     let folder = var("TILLJINGLE_LIB").unwrap_or(root + "/target/staticlib");
     println!("cargo:rustc-link-search=native={folder}");
     println!("cargo:rustc-link-lib=static=tilljingle");
-    println!("cargo:rustc-link-lib=m"); // fmod and fmodf
+    println!("cargo:rustc-link-lib=m"); // fmodf
     println!("cargo:rerun-if-env-changed=TILLJINGLE_LIB");
     println!("cargo:rerun-if-changed={folder}/libtilljingle.a");
 }

@@ -40,9 +40,9 @@ pub struct TimeFigures {
     pub duty_cycle_pos: f32,
     /// The other samples' share.
     pub duty_cycle_neg: f32,
-    /// Samples of the last rise from a tenth to nine tenths.
+    /// Time of the last rise, from a tenth to nine tenths of the swing; the samples are one second.
     pub rise_time: f32,
-    /// Samples of the last fall.
+    /// Time of the last fall.
     pub fall_time: f32,
     /// Peak over root mean square.
     pub crest_factor: f32,
@@ -52,11 +52,11 @@ pub struct TimeFigures {
     pub period: f32,
     /// Root mean square over the mean size.
     pub form_factor: f32,
-    /// Percent above the amplitude.
+    /// How far `max` lies above the amplitude, in percent of `peak_to_peak`.
     pub overshoot: f32,
-    /// Percent below the negative amplitude.
+    /// How far `min` lies below the negative amplitude, in percent of `peak_to_peak`.
     pub undershoot: f32,
-    /// Largest step between neighbours times the rate.
+    /// Largest step between neighbours, over the time between them.
     pub slew_rate: f32,
 }
 
@@ -70,7 +70,7 @@ pub fn measure_frequency(samples: &[f32], sample_rate: f32) -> Result<f32, Refus
     answered(answer.code, answer.value)
 }
 
-/// The largest step between neighbours, times the rate. [`Refusal::TooLong`] past 65,536 samples.
+/// The largest step between neighbours, over the rounded time between them; 0 for a rate that is not above 0. [`Refusal::TooLong`] past 65,536 samples.
 ///
 /// ```
 /// assert_eq!(tilljingle::slew_rate(&[0.0, 3.0, 1.0], 2.0), Ok(6.0));
@@ -80,7 +80,7 @@ pub fn slew_rate(samples: &[f32], sample_rate: f32) -> Result<f32, Refusal> {
     answered(answer.code, answer.value)
 }
 
-/// Power of a voltage and a current capture. For captures of 16-bit codes the figures are proved to be within document 01's bounds of the exact ones;
+/// Power of a voltage and a current capture. For captures of 16-bit codes the figures are proved to be within the bounds of the exact ones that docs/PROMISES.md gives;
 /// a NaN sample gives NaN for p and s and 0 for q and pf. [`Refusal::TooLong`], then [`Refusal::LengthsDiffer`].
 ///
 /// ```
@@ -101,7 +101,7 @@ pub fn compute_power(voltage: &[f32], current: &[f32], sample_rate: f32) -> Resu
     answered(answer.code, answer.power)
 }
 
-/// What [`compute_power`] answers for the codes as `f32`, without a buffer for them; the contract has document 01's bounds in it.
+/// What [`compute_power`] answers for the codes as `f32`, without a buffer for them; the contract has those bounds in it.
 ///
 /// ```
 /// use tilljingle::{power_of_codes, Power};

@@ -58,6 +58,7 @@ fn answered<T>(code: u8, answer: T) -> Result<T, Refusal> {
         4 => Refusal::OffGrid,
         5 => Refusal::WrongForm,
         6 => Refusal::WrongSum,
-        _ => Refusal::WrongSequence,
+        7 => Refusal::WrongSequence,
+        _ => unreachable!("no number of the table"),
     })
 }

@@ -16,7 +16,7 @@ pub enum Quotient {
 pub enum Sfdr {
     /// The fundamental over the largest spur.
     Ratio(f32),
-    /// The largest spur is at most 1e-12, or there is no other bin.
+    /// The largest spur is at most 1e-12, or there is no other bin; a NaN is no spur.
     NoSpur,
     /// The fundamental bin is 0 or past the end.
     UnusableBin,

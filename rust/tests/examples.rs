@@ -84,7 +84,7 @@ fn port_readings() {
 }
 
 #[test]
-fn a_brown_out_is_named() {
+fn a_nan_and_too_many_samples() {
     let blown = f32::from_bits(u32::MAX);
     let power = compute_power(&[blown], &[1.0], 1.0).unwrap();
     assert!(power.p.is_nan() && power.s.is_nan());
