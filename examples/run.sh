@@ -1,18 +1,21 @@
 #!/usr/bin/env bash
 # Builds the static library, compiles the C example against the header and runs it; then the safe Rust calls and their tests.
-# Only packages that are absent are installed.
+# Only packages that are absent are installed. The library is for x86-64: elsewhere both are built by a cross compiler and run under an emulator.
 set -euo pipefail
-cd "$(dirname "$0")/.."
-as_root() { if [ "$(id -u)" = 0 ]; then "$@"; else sudo "$@"; fi; }
-absent=()
-command -v cc >/dev/null || absent+=(gcc libc6-dev)
-command -v cargo >/dev/null || absent+=(cargo rustc)
-if [ ${#absent[@]} != 0 ]; then
-  as_root apt-get update -q
-  as_root env DEBIAN_FRONTEND=noninteractive apt-get install -q -y --no-install-recommends "${absent[@]}"
+cd "$(dirname "$0")/../oracle"
+. ./packages.sh
+. ./env.sh
+if [ -n "$native" ]; then
+  compiler=cc
+  command -v cc >/dev/null || install gcc libc6-dev
+  command -v cargo >/dev/null || install cargo rustc
+else
+  compiler=x86_64-linux-gnu-gcc
+  cross_tools
 fi
 
+cd ..
 rt staticlib tilljingle
-cc -std=c99 -Wall -Wextra -Werror -Iinclude examples/probe.c target/staticlib/libtilljingle.a -lm -o target/probe
-./target/probe
-(cd rust && cargo test --offline)
+"$compiler" -std=c99 -Wall -Wextra -Werror -Iinclude examples/probe.c target/staticlib/libtilljingle.a -lm -o target/probe
+${TILLJINGLE_RUNNER:-} target/probe
+(cd rust && cargo test --offline --target x86_64-unknown-linux-gnu)
