@@ -8,6 +8,7 @@ pub const ROUNDS: u64 = 24_000_000;
 extern "C" {
     fn tj_narrow(x: f64) -> f32;
     fn tj_sqrt64(x: f64) -> f64;
+    fn tj_sqrt64_narrowed(x: f64) -> f32;
     fn tj_sqrt32(x: f32) -> f32;
     fn tj_abs32(x: f32) -> f32;
     fn tj_round32(x: f32) -> f32;
@@ -17,6 +18,7 @@ extern "C" {
 struct Wide {
     narrow: Check,
     root: Check,
+    narrowed: Check,
 }
 
 impl Wide {
@@ -24,15 +26,17 @@ impl Wide {
         Wide {
             narrow: log.check("tj_narrow: as f32"),
             root: log.check("tj_sqrt64: f64::sqrt and libm::sqrt"),
+            narrowed: log.check("tj_sqrt64_narrowed: f64::sqrt as f32"),
         }
     }
 
     fn see(&self, log: &mut Log, x: f64) {
-        let (narrow, root) = unsafe { (tj_narrow(x), tj_sqrt64(x)) };
+        let (narrow, root, narrowed) = unsafe { (tj_narrow(x), tj_sqrt64(x), tj_sqrt64_narrowed(x)) };
         log.see32(self.narrow, narrow, black_box(x) as f32, || bits64(x));
         log.see64(self.root, root, agreed64(black_box(x).sqrt(), libm::sqrt(x)), || {
             bits64(x)
         });
+        log.see32(self.narrowed, narrowed, black_box(x).sqrt() as f32, || bits64(x));
     }
 }
 
@@ -88,7 +92,7 @@ const SIGN: u64 = 1 << 63;
 const FRACTION: u64 = (1 << 52) - 1;
 
 /// How many kinds of f64 `wide_input` makes.
-const KINDS: u64 = 9;
+const KINDS: u64 = 11;
 
 /// An f64 of the kind with this number.
 fn wide_input(random: &mut Random, kind: u64) -> f64 {
@@ -118,7 +122,15 @@ fn wide_input(random: &mut Random, kind: u64) -> f64 {
         6 => f64::from_bits(sign | (bits & FRACTION) >> random.below(52)),
         // squares: of 26 bits, which are exact, and of 53 bits, whose neighbours have roots near ties
         7 => near_square(random, (bits & 0x03FF_FFFF | 0x0200_0000) as f64),
-        _ => near_square(random, (bits >> 11 | 1) as f64),
+        8 => near_square(random, (bits >> 11 | 1) as f64),
+        // squares of odd numbers of 25 bits, whose roots are ties between two f32, and their neighbours
+        9 => near_square(random, (bits & 0x01FF_FFFF | 0x0100_0001) as f64),
+        // squares around f32's smallest normal number and around its largest
+        _ => {
+            let exponent = random.pick(&[1023 - 252, 1023 + 255]) + random.below(3) - 1;
+            let fraction = random.pick(&[bits & 0x7F, FRACTION - (bits & 0x7F), bits & FRACTION]);
+            f64::from_bits(exponent << 52 | fraction)
+        }
     }
 }
 
@@ -184,6 +196,13 @@ pub fn bench(table: &mut Table) {
     let slim: Vec<f32> = (0..4096).map(|_| (random.unit() * 1e6) as f32).collect();
     row!(table, "sqrt64, f64::sqrt", wide, f64::sqrt, tj_sqrt64);
     row!(table, "sqrt32, f32::sqrt", slim, f32::sqrt, tj_sqrt32);
+    row!(
+        table,
+        "sqrt64_narrowed, f64::sqrt as f32",
+        wide,
+        |x: f64| x.sqrt() as f32,
+        tj_sqrt64_narrowed
+    );
     row!(table, "narrow, as f32", wide, |x: f64| x as f32, tj_narrow);
     row!(table, "abs32, libm::fabsf", slim, libm::fabsf, tj_abs32);
     row!(table, "round32, libm::roundf", slim, libm::roundf, tj_round32);

@@ -18,7 +18,7 @@ pub use capture::{read_capture, report_text, write_capture, BadCapture};
 pub use figures::{
     calculate_time_figures, compute_power, measure_frequency, power_of_codes, slew_rate, Power, TimeFigures,
 };
-pub use number::{abs32, narrow, round32, sqrt32, sqrt64};
+pub use number::{abs32, narrow, round32, sqrt32, sqrt64, sqrt64_narrowed};
 pub use port::{Port, Reading};
 pub use quality::{
     compute_enob, compute_thd_from_spectrum, sfdr_quotient, sinad_quotient, snr_quotient, Quotient, Sfdr,

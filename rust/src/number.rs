@@ -17,6 +17,11 @@ pub fn sqrt64(x: f64) -> f64 {
     unsafe { raw::tj_sqrt64(x) }
 }
 
+/// `narrow(sqrt64(x))`, in less time.
+pub fn sqrt64_narrowed(x: f64) -> f32 {
+    unsafe { raw::tj_sqrt64_narrowed(x) }
+}
+
 /// The absolute value of `x`.
 pub fn abs32(x: f32) -> f32 {
     unsafe { raw::tj_abs32(x) }

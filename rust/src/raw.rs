@@ -50,6 +50,7 @@ extern "C" {
     pub fn tj_narrow(x: f64) -> f32;
     pub fn tj_sqrt32(x: f32) -> f32;
     pub fn tj_sqrt64(x: f64) -> f64;
+    pub fn tj_sqrt64_narrowed(x: f64) -> f32;
     pub fn tj_abs32(x: f32) -> f32;
     pub fn tj_round32(x: f32) -> f32;
 

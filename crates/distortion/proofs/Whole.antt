@@ -13,10 +13,10 @@ use Rattle.distortion.specs.Thd.{binOf, usable, thdFrom, thdAt, thdOf}
 
 module _ (top : ℕ) (earlier : Float) (xs : List Float) where
   -- the fundamental is heard, or silent
-  pub heard : (bin last : ℕ) (f p r w : Float) → f ≡ magnitudeOf xs bin → lt tiny32 f ≡ true → last ≡ lastUpTo top (length xs / 2) bin → p ≡ powerOf (magnitudeOf xs) bin 2 last
-      → r ≡ root binary64 p → w ≡ narrow r → mul binary32 (div binary32 w f) hundred32 ≡ thdAt top bin earlier xs
+  pub heard : (bin last : ℕ) (f p w : Float) → f ≡ magnitudeOf xs bin → lt tiny32 f ≡ true → last ≡ lastUpTo top (length xs / 2) bin → p ≡ powerOf (magnitudeOf xs) bin 2 last
+      → w ≡ narrow (root binary64 p) → mul binary32 (div binary32 w f) hundred32 ≡ thdAt top bin earlier xs
   unfolding thdAt thdFrom
-  heard bin last f p r w ef t el ep er ew = rw (← ef, t, ew, er, ep, el)
+  heard bin last f p w ef t el ep ew = rw (← ef, t, ew, ep, el)
 
   pub silent : (bin : ℕ) (f : Float) → f ≡ magnitudeOf xs bin → lt tiny32 f ≡ false → earlier ≡ thdAt top bin earlier xs
   unfolding thdAt thdFrom

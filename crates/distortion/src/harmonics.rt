@@ -60,7 +60,7 @@ pub fn thd_at(table: &[u32; 1025], samples: &[f32], bin: usize, top: usize, earl
     if fundamental > 1e-12 {
         let last = last_order(top, samples.len() / 2, bin);
         let power = harmonic_power(table, samples, bin, last);
-        return number::narrow(number::sqrt64(power)) / fundamental * 100.0;
+        return number::sqrt64_narrowed(power) / fundamental * 100.0;
     }
     earlier
 }

@@ -27,19 +27,23 @@ narrow-value (inf t) s a c C h = absurd h
 narrow-value (fin t m e) s a c C h = ap (λ (b : Bool). round binary32 b (m * up e) (down e)) (h .0) ∙ round-same binary32 s (m * up e) (down e) a c (down-pos e) C (h .1)
 
 -- the bits beside the sign, of what keeps q and drops k
-abbrev Beside : ℕ → ℕ → ℕ
+abbrev pub Beside : ℕ → ℕ → ℕ
 Beside k q = min (k * 2 ^ 23 + q) (255 * 2 ^ 23)
 
 -- m * 2 ^ y in units of the smallest `f64`
-units-bits : (s : Bool) (m y k q : ℕ) → drop 24 (m * 2 ^ (y + 149)) (2 ^ 1074) ≡ k → closest (m * 2 ^ (y + 149)) (2 ^ 1074 * 2 ^ k) ≡ q
-    → toBits binary32 (narrow (odd 53 s m y 1074)) ≡ cond s (2 ^ 31) 0 + Beside k q
-units-bits s m y k q d e =
+value-bits : (v : Float) (s : Bool) (m y k q : ℕ) → HasValue v s (m * 2 ^ y) (2 ^ 1074) → drop 24 (m * 2 ^ (y + 149)) (2 ^ 1074) ≡ k → closest (m * 2 ^ (y + 149)) (2 ^ 1074 * 2 ^ k) ≡ q
+    → toBits binary32 (narrow v) ≡ cond s (2 ^ 31) 0 + Beside k q
+value-bits v s m y k q h d e =
     let n : m * 2 ^ y * 2 ^ 149 ≡ m * 2 ^ (y + 149) = mul-assoc m (2 ^ y) (2 ^ 149) ∙ ap (λ (x : ℕ). m * x) (sym (pow-add 2 y 149)) in
-    ap (toBits binary32) (narrow-value (odd 53 s m y 1074) s (m * 2 ^ y) (2 ^ 1074) (pow-pos 1074) (odd-sign 53 s m y 1074))
+    ap (toBits binary32) (narrow-value v s (m * 2 ^ y) (2 ^ 1074) (pow-pos 1074) h)
     ∙ round-bits binary32 s (m * 2 ^ y) (2 ^ 1074)
     ∙ ap (λ (x : ℕ). cond s (2 ^ 31) 0 + Beside (drop 24 x (2 ^ 1074)) (kept 24 x (2 ^ 1074))) n
     ∙ ap (λ (j : ℕ). cond s (2 ^ 31) 0 + Beside j (closest (m * 2 ^ (y + 149)) (2 ^ 1074 * 2 ^ j))) d
     ∙ ap (λ (x : ℕ). cond s (2 ^ 31) 0 + Beside k x) e
+
+units-bits : (s : Bool) (m y k q : ℕ) → drop 24 (m * 2 ^ (y + 149)) (2 ^ 1074) ≡ k → closest (m * 2 ^ (y + 149)) (2 ^ 1074 * 2 ^ k) ≡ q
+    → toBits binary32 (narrow (odd 53 s m y 1074)) ≡ cond s (2 ^ 31) 0 + Beside k q
+units-bits s m y k q d e = value-bits (odd 53 s m y 1074) s m y k q (odd-sign 53 s m y 1074) d e
 
 -- below half of the smallest `f32`
 units-tiny : (s : Bool) (m y : ℕ) → m < 2 ^ 53 → y ≤ 870 → toBits binary32 (narrow (odd 53 s m y 1074)) ≡ cond s (2 ^ 31) 0 + 0
@@ -51,9 +55,12 @@ units-low : (s : Bool) (m y : ℕ) → m < 2 ^ 53 → 871 ≤ y → y ≤ 895 �
 units-low s m y h l u =
     units-bits s m y 0 (closest m (2 ^ (925 - y))) (drop-zero 24 m (y + 149) 1074 53 h (omega arith)) (kept-at m (y + 149) 1074 0 (925 - y) (omega arith))
 
+pub value-high : (v : Float) (s : Bool) (m y : ℕ) → HasValue v s (m * 2 ^ y) (2 ^ 1074) → 2 ^ 52 ≤ m → m < 2 ^ 53 → 896 ≤ y → toBits binary32 (narrow v) ≡ cond s (2 ^ 31) 0 + Beside (y - 896) (closest m (2 ^ 29))
+value-high v s m y i h l u =
+    value-bits v s m y (y - 896) (closest m (2 ^ 29)) i (drop-at 23 m (y + 149) 1074 (y - 896) 52 h l (omega arith)) (kept-at m (y + 149) 1074 (y - 896) 29 (omega arith))
+
 units-high : (s : Bool) (m y : ℕ) → 2 ^ 52 ≤ m → m < 2 ^ 53 → 896 ≤ y → toBits binary32 (narrow (odd 53 s m y 1074)) ≡ cond s (2 ^ 31) 0 + Beside (y - 896) (closest m (2 ^ 29))
-units-high s m y h l u =
-    units-bits s m y (y - 896) (closest m (2 ^ 29)) (drop-at 23 m (y + 149) 1074 (y - 896) 52 h l (omega arith)) (kept-at m (y + 149) 1074 (y - 896) 29 (omega arith))
+units-high s m y = value-high (odd 53 s m y 1074) s m y (odd-sign 53 s m y 1074)
 
 -- ---- by the fields
 

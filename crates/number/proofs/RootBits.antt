@@ -2,13 +2,14 @@
 use mathlib.Core.Path.{_≡_, refl, sym, ap, _∙_, subst}
 use mathlib.Core.Logic.{inl, inr}
 use Prim.Native.Nat.{ℕ, zero, suc, _+_, _-_, _*_, _/_, _%_, _^_, _≤_, _<_, min, compare}
-use native.Mathlib.Nat.{le-trans, le-of-eq, le-of-lt, lt-of-lt-of-le, lt-of-le-of-lt, lt-irrefl, mul-assoc, mul-right-comm, mul-left-comm, mul-mul-mul-comm, suc-mul, add-zero, zero-add, le-add-right, eq-zero-or-pos, mul-pos, mul-le-mul, mul-le-mul-right, eq-of-mul-eq-mul-right, mul-div-cancel, div-add-mod', mod-lt, add-mul, pow-succ', pow-suc, mul-mod-left, zero-mul, mul-one, mul-le-mul-left, lt-of-not-le, mul-lt-mul-of-pos-right}
+use native.Mathlib.Nat.{le-trans, le-of-eq, le-of-lt, lt-of-lt-of-le, lt-of-le-of-lt, lt-irrefl, mul-assoc, mul-right-comm, mul-left-comm, mul-mul-mul-comm, suc-mul, add-zero, zero-add, le-add-right, eq-zero-or-pos, mul-pos, mul-le-mul, mul-le-mul-right, eq-of-mul-eq-mul-right, mul-div-cancel, div-add-mod', mod-lt, add-mul, pow-succ', pow-suc, mul-mod-left, zero-mul, mul-one, mul-le-mul-left, lt-of-not-le, mul-lt-mul-of-pos-right, mod-eq-of-lt}
 use native.Mathlib.Numerals.{add-one}
 use native.Mathlib.Omega.{arith}
 use mathlib.Core.Bool.{Bool, true, false, cond, true≢false}
 use lib.Dec.{T, eqb, eqb→eq, lit≤, not-T}
 use lib.Arith.{digits-div, digits-mod}
 use lib.Pow.{pow-add, pow-pos, pow-mono, shl-lt}
+use lib.Bits.{bitAnd, and-mask}
 use lib.Ieee.{Float, nan, inf, fin, Format, binary32, binary64, prec, emax, odd, ofFields, low, up, down, hid, ones, nearest, round, toBits}
 use lib.Ieee.Fits.{two, down-pos}
 use lib.Ieee.Exact.{HasValue, odd-sign}
@@ -55,7 +56,7 @@ root-value f (fin true (suc m) e) a A h = absurd (true≢false (h .0))
 root-value f (fin false (suc m) e) a A h = ap (Finer f) (units-of (low f) (suc m) (up e) (down e) a (down-pos e) (h .1))
 
 -- ---- R * h + c, a c below h, rounded to a multiple of 2 * h, where it is no tie
-closest-half : (R h c : ℕ) → c < h → (R % 2 ≡ 1 → 0 < c) → closest (R * h + c) (2 * h) ≡ (R + 1) / 2
+pub closest-half : (R h c : ℕ) → c < h → (R % 2 ≡ 1 → 0 < c) → closest (R * h + c) (2 * h) ≡ (R + 1) / 2
 closest-half R h c l g = go (R % 2) refl
   where
     even : (x : ℕ) → x % 2 ≡ 0 → x ≡ x / 2 * 2
@@ -249,6 +250,11 @@ under-lt p m g h = lt-of-lt-of-le (shl-lt p (g % 2) h) (pow-mono (last p g))
   where
     last : (p g : ℕ) → p + g % 2 ≤ p + 1
     last p g = omega arith
+
+-- `m << (g & 1)` loses nothing
+pub doubled : (m g p : ℕ) → m < 2 ^ p → p ≤ 53 → m * 2 ^ bitAnd g 1 % 2 ^ 64 ≡ m * 2 ^ (g % 2)
+doubled m g p h k =
+    ap (λ (x : ℕ). m * 2 ^ x % 2 ^ 64) (and-mask g 1) ∙ mod-eq-of-lt (lt-of-lt-of-le (under-lt p m g h) (pow-mono {i = p + 1} {j = 64} (omega arith)))
 
 root-lt : (N R B : ℕ) → N < B * B → R * R ≤ N → R < B
 root-lt N R B h k = lt-of-not-le (λ (g : B ≤ R). lt-irrefl N (lt-of-lt-of-le h (le-trans (mul-le-mul g g) k)))

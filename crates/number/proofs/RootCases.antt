@@ -86,7 +86,7 @@ negative-case f x h n l =
 
 -- ---- not below zero
 
-positive : (f : Format) (x : Float) → T (fits f x) → toBits f x < top f → ofFields f false (fieldOf f (toBits f x)) (digitsOf f (toBits f x)) ≡ x
+pub positive : (f : Format) (x : Float) → T (fits f x) → toBits f x < top f → ofFields f false (fieldOf f (toBits f x)) (digitsOf f (toBits f x)) ≡ x
 positive f x h l =
     let b = toBits f x in
     ap (λ (s : Bool). ofFields f s (fieldOf f b) (digitsOf f b)) (sym (is-false (signOf f b) (not-T (leb (top f) b) (λ (t : T (leb (top f) b)). not-le-of-lt l (leb→le (top f) b t)))))

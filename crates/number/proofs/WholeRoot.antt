@@ -2,7 +2,7 @@
 -- is cutting 2 * j digits off the number (`root-cut`). Assumes nothing.
 use mathlib.Core.Path.{_≡_, refl, sym, ap, _∙_, subst}
 use Prim.Native.Nat.{ℕ, zero, suc, _+_, _*_, _/_, _%_, _^_, _≤_, _<_, zero-le}
-use native.Mathlib.Nat.{le-refl, le-trans, le-of-eq, le-antisymm, lt-irrefl, lt-of-lt-of-le, lt-of-not-le, le-of-suc-le-suc, zero-lt-suc, mul-comm, mul-assoc, mul-left-comm, mul-right-comm, mul-mul-mul-comm, mul-pos, one-mul, mul-add, add-mul, suc-mul, mul-suc, mul-le-mul, div-lt-iff-lt-mul, le-div-iff-mul-le, pow-suc, div-mul-le-self, le-of-mul-le-mul-right, lt-of-mul-lt-mul-right}
+use native.Mathlib.Nat.{le-refl, le-trans, le-of-eq, le-antisymm, lt-irrefl, lt-of-lt-of-le, lt-of-not-le, le-of-suc-le-suc, zero-lt-suc, mul-comm, mul-assoc, mul-left-comm, mul-right-comm, mul-mul-mul-comm, mul-pos, one-mul, mul-add, add-mul, suc-mul, mul-le-mul, div-lt-iff-lt-mul, le-div-iff-mul-le, pow-suc, div-mul-le-self, le-of-mul-le-mul-right, lt-of-mul-lt-mul-right, mul-lt-mul-of-pos-right}
 use native.Mathlib.Omega.{arith}
 use mathlib.Core.Bool.{Bool, true, false, not, cond}
 use lib.Dec.{T, leb, leb→le, nleb→lt, lit≤}
@@ -87,12 +87,21 @@ module _ (N P q y r w : ℕ) (W : w ≡ 2 * r) (L : Left N P q y w) where
       let o = L .room in
       record { exact = omega arith; small = omega arith; room = omega arith }
 
-pub digits-done : (N P q y : ℕ) → Left N P q y 1 → q ≡ wholeRoot N
-digits-done N P q y L =
-    let a : suc q * suc q ≡ q * q + q + suc q = suc-mul q (suc q) ∙ ap (λ (x : ℕ). x + suc q) (mul-suc q q) in
+-- with all but the last digits worked out, those below u: what stands there is the root without them
+pub digits-done : (N P k y u : ℕ) → 0 < u → Left N P (k * u) y u → k ≡ wholeRoot N / u
+digits-done N P k y u U L =
+    let q = k * u in
+    let R = wholeRoot N in
+    let i = whole-root-is N in
+    let a : (q + u) * (q + u) ≡ q * q + q * u + (q * u + u * u) = add-mul q u (q + u) ∙ ap (λ (x : ℕ). x + u * (q + u)) (mul-add q q u) ∙ ap (λ (x : ℕ). q * q + q * u + x) (mul-add u q u ∙ ap (λ (x : ℕ). x + u * u) (mul-comm u q)) in
+    let b : (4 * q + 2 * u) * u ≡ 4 * (q * u) + 2 * (u * u) = add-mul (4 * q) (2 * u) u ∙ ap (λ (x : ℕ). x + 2 * u * u) (mul-assoc 4 q u) ∙ ap (λ (x : ℕ). 4 * (q * u) + x) (mul-assoc 2 u u) in
+    let c : y * u < (4 * q + 2 * u) * u = mul-lt-mul-of-pos-right (L .small) U in
     let x = L .exact in
-    let s = L .small in
-    whole-root N q (omega arith, omega arith)
+    let below : q * q ≤ N = omega arith in
+    let above : N < (q + u) * (q + u) = omega arith in
+    let lo : q ≤ R = root-le N q R below (i .1) in
+    let hi : R < q + u = lt-of-not-le (λ (g : q + u ≤ R). lt-irrefl N (lt-of-lt-of-le above (le-trans (sq-mono g) (i .0)))) in
+    le-antisymm (le-div-iff-mul-le U .1 lo) (le-of-suc-le-suc (div-lt-iff-lt-mul U .1 (lt-of-lt-of-le hi (le-of-eq (sym (suc-mul k u))))))
 
 -- ---- j digits off the root are 2 * j digits off the number
 

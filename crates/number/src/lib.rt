@@ -59,24 +59,36 @@ fn select(test: bool, a: u64, b: u64) -> u64
     if test { a } else { b }
 }
 
-// The whole part of the root of m * 2^(p + 1), which has p + 1 digits, one a turn, from the highest down.
-// r is twice the root so far, which is a multiple of w, and y is twice what its square leaves, in units of w.
-fn root_digits(m: u64, p: u64) -> u64
-    requires { ⌜ m < 2 ^ (p + 1) ⌝ ∗ ⌜ p ≤ 53 ⌝ }
-    ensures { λ r. ⌜ r ≡ Number.wholeRoot (m * 2 ^ (p + 1)) ⌝ }
+// The first digits of a root, and twice what their square leaves, in units of the last digit.
+struct Digits {
+    root: u64,
+    rest: u64,
+}
+
+// The root of m * 2^(p + 1) has p + 1 digits: all but the last j, one a turn, from the highest down.
+// r is twice the root so far, which is a multiple of 2 * w, and y is twice what its square leaves, in units of 2 * w.
+// Both new values are chosen from what was there before the test, so that a turn waits for the test, a choice and a subtraction alone.
+fn root_digits(m: u64, p: u64, j: u64) -> Digits
+    requires { ⌜ m < 2 ^ (p + 1) ⌝ ∗ ⌜ p ≤ 53 ⌝ ∗ ⌜ j ≤ p ⌝ }
+    ensures { λ r. ⌜ r .root ≡ Number.wholeRoot (m * 2 ^ (p + 1)) / 2 ^ j ⌝ }
+    ensures { λ r. ⌜ r .root * 2 ^ j * (r .root * 2 ^ j) + r .root * 2 ^ j * (r .root * 2 ^ j) + r .rest * 2 ^ j ≡ m * 2 ^ (p + 1) + m * 2 ^ (p + 1) ⌝ }
+    ensures { λ r. ⌜ r .rest < 4 * (r .root * 2 ^ j) + 2 * 2 ^ j ⌝ }
 {
+    let last: u64 = 1 << j;
     let mut r: u64 = 0;
     let mut y: u64 = m + m;
-    let mut w: u64 = 1 << (p + 1);
-    while 1 < w {
-        w = w >> 1;
+    let mut w: u64 = 1 << p;
+    while last <= w {
         let t: u64 = r + w;
-        let fits: bool = t <= y;
-        let z: u64 = y - select(fits, t, 0);
-        y = z + z;
-        r = select(fits, t + w, r);
+        let short: bool = y < t;
+        y = y + y - select(short, 0, t + t);
+        r = select(short, r, t + w);
+        w = w >> 1;
     }
-    r >> 1
+    Digits {
+        root: r >> (j + 1),
+        rest: y,
+    }
 }
 
 // The bit pattern of the root of m * 2^(p + 1 + g), for an m of p digits: the root's p + 1 digits rounded to p, beside half of g.
@@ -84,7 +96,7 @@ fn root_of(m: u64, g: u64, p: u64) -> u64
     requires { ⌜ m < 2 ^ p ⌝ ∗ ⌜ 1 ≤ p ⌝ ∗ ⌜ p ≤ 53 ⌝ ∗ ⌜ g < 4096 ⌝ }
     ensures { λ r. ⌜ r ≡ g / 2 * 2 ^ (p - 1) + (Number.wholeRoot (m * 2 ^ (g % 2) * 2 ^ (p + 1)) + 1) / 2 ⌝ }
 {
-    ((g >> 1) << (p - 1)) + ((root_digits(m << (g & 1), p) + 1) >> 1)
+    ((g >> 1) << (p - 1)) + ((root_digits(m << (g & 1), p, 0).root + 1) >> 1)
 }
 
 // The bit pattern of the root of the value above zero with this exponent's field and these digits, in the format of p digits and
@@ -121,6 +133,46 @@ pub fn sqrt64(x: f64) -> f64
         return x;
     }
     f64::from_bits(root_fields(field, digits, 53, 1021))
+}
+
+// The bit pattern of the `f32` nearest to the `f64` nearest to the root of m * 2^(54 + g), for an m of 53 digits, where that is a normal `f32`.
+// The root has 54 digits, of which the first 25 are worked out: those that an `f32` keeps, and the half below them. Where the square of these 25 is within
+// one unit of m, an `f64` doesn't tell the root from the middle of two `f32`, so it is a tie; with m and one unit more, that is a rest of at most two units.
+fn narrowed_of(m: u64, g: u64) -> u64
+    requires { ⌜ 2 ^ 52 ≤ m ⌝ ∗ ⌜ m < 2 ^ 53 ⌝ ∗ ⌜ 1792 ≤ g ⌝ ∗ ⌜ g < 2300 ⌝ }
+    ensures { λ r. ⌜ r ≡ (g / 2 - 896) * 2 ^ 23 + closest ((Number.wholeRoot (m * 2 ^ (g % 2) * 2 ^ 54) + 1) / 2) (2 ^ 29) ⌝ }
+{
+    let field: u64 = ((g >> 1) - 896) << 23;
+    let first = root_digits((m << (g & 1)) + 1, 53, 29);
+    let digits = first.root;
+    let rest = first.rest;
+    if rest <= 0x800_0000 {
+        return field + nearest_shr(digits, 1);
+    }
+    field + ((digits + 1) >> 1)
+}
+
+// The square root of x as an `f64`, narrowed: `narrow(sqrt64(x))`, in less than half of its time.
+pub fn sqrt64_narrowed(x: f64) -> f32
+    ensures { λ r. ⌜ r ≡ Number.narrow (Number.root binary64 x) ⌝ }
+{
+    if x != x {
+        return 0.0 / 0.0;
+    }
+    let bits: u64 = f64::to_bits(x);
+    let field: u64 = bits >> 52;
+    // above zero, and with a root that is a normal `f32`
+    if 771 <= field {
+        if field <= 1278 {
+            return f32::from_bits(
+                narrowed_of(
+                    (bits & 0xf_ffff_ffff_ffff) | 0x10_0000_0000_0000,
+                    field + 1021,
+                ) as u32,
+            );
+        }
+    }
+    narrow(sqrt64(x))
 }
 
 // The square root of x: the nearest `f32`.

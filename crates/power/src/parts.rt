@@ -17,7 +17,7 @@ pub struct Sums {
 fn narrowed_root(x: f64) -> f32
     ensures { λ r. ⌜ r ≡ narrowedRoot x ⌝ }
 {
-    number::narrow(number::sqrt64(x))
+    number::sqrt64_narrowed(x)
 }
 
 // The power factor; 0 where s is at most 1e-12, or is not a number.

@@ -187,7 +187,7 @@ fn distortion(spectrum: &[f32], bin: usize) -> f32
     if fund < 1e-12 {
         return 0.0;
     }
-    number::narrow(number::sqrt64(power(spectrum, bin, 2))) / fund * 100.0
+    number::sqrt64_narrowed(power(spectrum, bin, 2)) / fund * 100.0
 }
 
 // Total harmonic distortion in percent: the multiples of the bin against the fundamental; 0 for a bin of 0 or past the end.

@@ -25,6 +25,13 @@ pub extern "C" fn tj_sqrt64(x: f64) -> f64
 }
 
 #[no_mangle]
+pub extern "C" fn tj_sqrt64_narrowed(x: f64) -> f32
+    ensures { λ r. ⌜ r ≡ Number.narrow (Number.root binary64 x) ⌝ }
+{
+    number::sqrt64_narrowed(x)
+}
+
+#[no_mangle]
 pub extern "C" fn tj_abs32(x: f32) -> f32
     ensures { λ r. ⌜ r ≡ Number.abs x ⌝ }
 {

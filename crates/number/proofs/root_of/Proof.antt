@@ -2,24 +2,19 @@
 use mathlib.Core.Path.{_≡_, sym, ap, _∙_, subst}
 use Prim.Native.Nat.{ℕ, _+_, _-_, _*_, _/_, _%_, _^_, _≤_, _<_}
 use native.Mathlib.Omega.{arith}
-use native.Mathlib.Nat.{lt-of-lt-of-le, mod-eq-of-lt}
+use native.Mathlib.Nat.{lt-of-lt-of-le, div-one}
 use lib.Pow.{pow-mono, shl-lt, shl-exact}
-use lib.Bits.{bitAnd, and-mask, and-le-r}
+use lib.Bits.{and-le-r}
 use borrow.Author.Needs.{needs}
 use Rattle.number.specs.Number.{wholeRoot}
-use Rattle.number.proofs.RootBits.{Under, under-lt, under-root-lt}
+use Rattle.number.proofs.RootBits.{Under, doubled, under-lt, under-root-lt}
 use Rattle.number.proofs.root_of.Statement.{statement}
 use Rattle.number.proofs.root_of.Tie as tie
 
 cap : (p : ℕ) → p ≤ 53 → 2 ^ (p + 1) ≤ 2 ^ 54
 cap p h = pow-mono {i = p + 1} {j = 54} (omega arith)
 
--- `m << (g & 1)` loses nothing
-doubled : (m g p : ℕ) → m < 2 ^ p → p ≤ 53 → m * 2 ^ bitAnd g 1 % 2 ^ 64 ≡ m * 2 ^ (g % 2)
-doubled m g p h k =
-    ap (λ (x : ℕ). m * 2 ^ x % 2 ^ 64) (and-mask g 1) ∙ mod-eq-of-lt (lt-of-lt-of-le (under-lt p m g h) (pow-mono {i = p + 1} {j = 64} (omega arith)))
-
--- nor does `(g >> 1) << (p - 1)`
+-- `(g >> 1) << (p - 1)` loses nothing
 half-g : (g : ℕ) → g < 4096 → g / 2 < 2 ^ 11
 half-g g h = omega arith
 
@@ -43,33 +38,34 @@ root-digits-requires c κs =
     let m = c .args .m in
     let g = c .args .g in
     let p = c .args .p in
-    (subst (λ (x : ℕ). x < 2 ^ (p + 1)) (sym (doubled m g p (search needs) (search needs))) (under-lt p m g (search needs)), search needs)
+    (subst (λ (x : ℕ). x < 2 ^ (p + 1)) (sym (doubled m g p (search needs) (search needs))) (under-lt p m g (search needs)), (search needs, search needs))
 
 -- what the call returns
-result : (c : tie.After-root-digits) → c .root-digits .result ≡ wholeRoot (Under (c .before .args .p) (c .before .args .m) (c .before .args .g))
+result : (c : tie.After-root-digits) → c .root-digits .result .root ≡ wholeRoot (Under (c .before .args .p) (c .before .args .m) (c .before .args .g))
 result c =
     let p = c .before .args .p in
-    c .root-digits .ensures ∙ ap (λ (x : ℕ). wholeRoot (x * 2 ^ (p + 1))) (doubled (c .before .args .m) (c .before .args .g) p (search needs) (search needs))
+    let N = Under p (c .before .args .m) (c .before .args .g) in
+    c .root-digits .ensures .0 ∙ ap (λ (x : ℕ). wholeRoot (x * 2 ^ (p + 1)) / 1) (doubled (c .before .args .m) (c .before .args .g) p (search needs) (search needs)) ∙ div-one (wholeRoot N)
 
-bound : (c : tie.After-root-digits) → c .root-digits .result < 2 ^ 54
+bound : (c : tie.After-root-digits) → c .root-digits .result .root < 2 ^ 54
 bound c =
     let p = c .before .args .p in
     subst (λ (x : ℕ). x < 2 ^ 54) (sym (result c)) (lt-of-lt-of-le (under-root-lt p (c .before .args .m) (c .before .args .g) (search needs)) (cap p (search needs)))
 
 add-result : tie.Need-add-result
-add-result c = omega (arith, bound c)
+add-result c = omega (arith, bound (c .before))
 
 add-result-2 : tie.Need-add-result-2
 add-result-2 c =
-    let g = c .before .args .g in
-    let p = c .before .args .p in
-    omega (arith, bound c, placed g p (search needs) (search needs), placed-lt g p (search needs) (search needs))
+    let g = c .before .before .args .g in
+    let p = c .before .before .args .p in
+    omega (arith, bound (c .before), placed g p (search needs) (search needs), placed-lt g p (search needs) (search needs))
 
 returns : tie.Need-returns
 returns c =
-    let g = c .before .args .g in
-    let p = c .before .args .p in
-    ap (λ (x : ℕ). x + (c .root-digits .result + 1) / 2) (placed g p (search needs) (search needs)) ∙ ap (λ (x : ℕ). g / 2 * 2 ^ (p - 1) + (x + 1) / 2) (result c)
+    let g = c .before .before .args .g in
+    let p = c .before .before .args .p in
+    ap (λ (x : ℕ). x + (c .before .root-digits .result .root + 1) / 2) (placed g p (search needs) (search needs)) ∙ ap (λ (x : ℕ). g / 2 * 2 ^ (p - 1) + (x + 1) / 2) (result (c .before))
 
 pub root-of-spec : {M : Type 1} → statement M
 root-of-spec = tie.close (tie.spec sub-result shl-result shl-root-digits root-digits-requires add-result add-result-2 returns)

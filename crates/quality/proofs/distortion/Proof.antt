@@ -17,15 +17,12 @@ returns c = rw (c .if1 .taken)
 power-requires : tie.Need-power-requires
 power-requires c κs = search needs
 
-sqrt64-requires : tie.Need-sqrt64-requires
-sqrt64-requires c κs = search needs
-
-narrow-requires : tie.Need-narrow-requires
-narrow-requires c κs = search needs
+sqrt64-narrowed-requires : tie.Need-sqrt64-narrowed-requires
+sqrt64-narrowed-requires c κs = search needs
 
 returns-2 : tie.Need-returns-2
 unfolding thdOf
-returns-2 c = rw (c .before .before .before .if1 .left) (cc)
+returns-2 c = rw (c .before .before .if1 .left) (cc)
 
 pub distortion-spec : {M : Type 1} → statement M
 distortion-spec =
@@ -35,6 +32,5 @@ distortion-spec =
     shared-slice-read-fund
     returns
     power-requires
-    sqrt64-requires
-    narrow-requires
+    sqrt64-narrowed-requires
     returns-2)

@@ -19,17 +19,14 @@ harmonic-power-requires c κs =
     let room = pre .1 .1 .0 in
     (pre .0, (pre .1 .0, last-fits _ _ _ _ _ (c .last-order .ensures) (room .0) (room .1) (omega arith) (pre .1 .1 .1 .0) (pre .1 .1 .1 .1)))
 
-sqrt64-requires : tie.Need-sqrt64-requires
-sqrt64-requires c κs = search needs
-
-narrow-requires : tie.Need-narrow-requires
-narrow-requires c κs = search needs
+sqrt64-narrowed-requires : tie.Need-sqrt64-narrowed-requires
+sqrt64-narrowed-requires c κs = search needs
 
 returns : tie.Need-returns
 returns c =
-    heard _ _ (now (c .before .before .before .before .before .before .before .args .samples)) _ (c .before .before .before .last-order .result) _ _ _ _
-    (c .before .before .before .before .before .bin-magnitude .ensures) (c .before .before .before .before .if1 .taken) (c .before .before .before .last-order .ensures)
-    (c .before .before .harmonic-power .ensures) (c .before .sqrt64 .ensures) (c .narrow .ensures)
+    heard _ _ (now (c .before .before .before .before .before .before .args .samples)) _ (c .before .before .last-order .result) _ _ _
+    (c .before .before .before .before .bin-magnitude .ensures) (c .before .before .before .if1 .taken) (c .before .before .last-order .ensures)
+    (c .before .harmonic-power .ensures) (c .sqrt64-narrowed .ensures)
 
 returns-2 : tie.Need-returns-2
 returns-2 c = silent _ _ (now (c .before .before .before .args .samples)) _ _ (c .before .bin-magnitude .ensures) (c .if1 .left)
@@ -41,7 +38,6 @@ thd-at-spec =
     bin-magnitude-requires
     last-order-requires
     harmonic-power-requires
-    sqrt64-requires
-    narrow-requires
+    sqrt64-narrowed-requires
     returns
     returns-2)

@@ -4,15 +4,12 @@ use borrow.Author.Needs.{needs}
 use Rattle.power.proofs.parts.narrowed_root.Statement.{statement}
 use Rattle.power.proofs.parts.narrowed_root.Tie as tie
 
-sqrt64-requires : tie.Need-sqrt64-requires
-sqrt64-requires c κs = search needs
-
-narrow-requires : tie.Need-narrow-requires
-narrow-requires c κs = search needs
+sqrt64-narrowed-requires : tie.Need-sqrt64-narrowed-requires
+sqrt64-narrowed-requires c κs = search needs
 
 returns : tie.Need-returns
 unfolding narrowedRoot
 returns c = cc
 
 pub narrowed-root-spec : {M : Type 1} → statement M
-narrowed-root-spec = tie.close (tie.spec sqrt64-requires narrow-requires returns)
+narrowed-root-spec = tie.close (tie.spec sqrt64-narrowed-requires returns)
