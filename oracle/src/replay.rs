@@ -1,42 +1,52 @@
-//! Writes the data that crates/replay replays: a sample of inputs, the same in every run, and what the published Rust answers to each. How a line is read stands
-//! in crates/replay/src/main.rt.
+//! Writes the data that the programs replay, replay_signal and replay_lines of crates/ replay: a sample of inputs, the same in every run, and what the
+//! published Rust answers to each. How a line is read stands in crates/replaying/src/lib.rt.
+
+mod captures;
+mod limits;
 
 use crate::common::{edges32, edges64, Kind, Random, KINDS};
 use crate::generator::wave_of;
-use crate::lines;
 use crate::quality::cut;
 use crate::signal::{self, Signal, SignalMetrics, SignalType};
 use crate::spectrum::over_sines;
 use std::process::ExitCode;
 
-/// Where the files go.
-const DATA: &str = concat!(env!("CARGO_MANIFEST_DIR"), "/../crates/replay/data");
+/// Where the programs stand.
+const CRATES: &str = concat!(env!("CARGO_MANIFEST_DIR"), "/../crates");
 
-/// The areas, by the number of 01's item: one file each.
-const AREAS: [(&str, fn(&mut Lines)); 11] = [
-    ("number", number),
-    ("samples", samples),
-    ("timing", timing),
-    ("power", power),
-    ("figures", figures),
-    ("spectrum", spectrum),
-    ("quality", quality),
-    ("generator", generator),
-    ("port", port),
-    ("signal", signals),
-    ("capture", capture),
+/// The most places of a list whose numbers stand in the line one by one.
+const ROOM: usize = 32;
+
+/// The files: the program, the name, the seed, 01's item, and what makes the lines.
+const FILES: [(&str, &str, u64, u32, fn(&mut Lines)); 16] = [
+    ("replay", "number", 101, 1, number),
+    ("replay", "samples", 102, 2, samples),
+    ("replay", "timing", 103, 3, timing),
+    ("replay", "power", 104, 4, power),
+    ("replay_signal", "figures", 105, 5, figures),
+    ("replay", "spectrum", 106, 6, spectrum),
+    ("replay", "quality", 107, 7, quality),
+    ("replay", "generator", 108, 8, generator),
+    ("replay_signal", "port", 109, 9, port),
+    ("replay_signal", "signal", 110, 10, signals),
+    ("replay_lines", "capture", 111, 11, captures::capture),
+    ("replay_lines", "codes", 112, 4, captures::codes),
+    ("replay_lines", "report", 113, 11, captures::report),
+    ("replay", "limits", 114, 0, limits::slices),
+    ("replay_signal", "limits", 115, 0, limits::signals),
+    ("replay_lines", "limits", 116, 0, limits::captures),
 ];
 
 /// The lines of one file, and the inputs' source.
-struct Lines {
+pub struct Lines {
     random: Random,
     item: u32,
     text: String,
 }
 
 /// What one call is given: numbers, two slices, and a slice that it may write to.
-#[derive(Default)]
-struct Given {
+#[derive(Default, Clone)]
+pub struct Given {
     words: Vec<u32>,
     a: Vec<f32>,
     b: Vec<f32>,
@@ -45,7 +55,7 @@ struct Given {
 
 /// What it answers: a number of 01's table, an f64, f32; and the slice afterwards.
 #[derive(Default)]
-struct Said {
+pub struct Said {
     code: u32,
     wide: f64,
     floats: Vec<f32>,
@@ -67,18 +77,29 @@ fn words(x: f64) -> [u32; 2] {
     [(bits >> 32) as u32, bits as u32]
 }
 
+/// The words of a list. One that is too long for a line has the same number in all its places, which stands there once.
+fn listed(list: &[f32]) -> Vec<u32> {
+    let mut words: Vec<u32> = list.iter().map(word).collect();
+    if list.len() > ROOM {
+        words.dedup();
+        assert_eq!(words.len(), 1);
+    }
+    words
+}
+
 impl Lines {
     fn line(&mut self, which: u32, given: &Given, said: &Said) {
         let mut all = vec![0, self.item, which, given.words.len() as u32];
         all.extend(&given.words);
         for list in [&given.a, &given.b, &given.out] {
             all.push(list.len() as u32);
-            all.extend(list.iter().map(word));
+            all.extend(listed(list));
         }
         all.push(said.code);
         all.extend(words(said.wide));
         all.push(said.floats.len() as u32);
-        all.extend(said.floats.iter().chain(&said.out).map(word));
+        all.extend(said.floats.iter().map(word));
+        all.extend(listed(&said.out));
         all[0] = all.len() as u32;
         let digits: Vec<String> = all.iter().map(|word| format!("{word:08X}")).collect();
         self.text += &digits.join(" ");
@@ -286,7 +307,10 @@ fn sines(n: usize) -> Vec<f64> {
         .collect()
 }
 
-/// The Rust's operations over 01's sines; off the grid 4; an output or a scratch that is too short 2.
+/// What stands in the scratch before.
+const SCRATCH: f64 = 0.75;
+
+/// The Rust's operations over 01's sines, which the call with scratch leaves there; off the grid 4; an output or a scratch that is too short 2.
 fn spectrum(lines: &mut Lines) {
     for round in 0..300 {
         let kind = lines.random.pick(&KINDS);
@@ -308,6 +332,7 @@ fn spectrum(lines: &mut Lines) {
             ..Given::default()
         };
         for which in [1, 2] {
+            let mut given = given.clone();
             let mut said = Said {
                 out: given.out.clone(),
                 ..Said::default()
@@ -316,8 +341,13 @@ fn spectrum(lines: &mut Lines) {
                 0 | 1 | 2 | 4 | 8 | 16 | 32 => 2 * (n_out < n / 2 || which == 2 && n_scratch < n) as u32,
                 _ => 4,
             };
+            let mut scratch = vec![SCRATCH; n_scratch];
             if said.code == 0 {
                 over_sines(&given.a, &sines(n), &mut said.out);
+                scratch.splice(..n.min(n_scratch), sines(n));
+            }
+            if which == 2 {
+                given.words.extend(scratch.into_iter().flat_map(words));
             }
             lines.line(which, &given, &said);
         }
@@ -679,125 +709,21 @@ fn signals(lines: &mut Lines) {
     }
 }
 
-/// A voltage and a current code in a word.
-fn pairs(volts: &[i16], amps: &[i16]) -> Vec<u32> {
-    let word = |(volt, amp): (&i16, &i16)| (*volt as u16 as u32) << 16 | *amp as u16 as u32;
-    volts.iter().zip(amps).map(word).collect()
-}
-
-/// Four bytes in a word; the last word is filled up with zeros.
-fn packed(text: &[u8]) -> Vec<u32> {
-    let at = |four: &[u8], k: usize| four.get(k).copied().unwrap_or(0);
-    text.chunks(4)
-        .map(|four| u32::from_be_bytes([0, 1, 2, 3].map(|k| at(four, k))))
-        .collect()
-}
-
-/// A capture of up to 20 pairs in a few lines, often spoiled in one place.
-fn text(random: &mut Random) -> Vec<u8> {
-    let mut number = random.pick(&[0, 1, 0xFFFE, 0xFFFF, 0x1234]);
-    let mut text = Vec::new();
-    for _ in 0..random.below(4) {
-        let most = random.pick(&[2, 4, 6]);
-        let pairs: Vec<lines::Pair> = (0..=random.below(most))
-            .map(|_| (random.bits() as i16, random.bits() as i16))
-            .collect();
-        text.extend(lines::line_of(number, &pairs));
-        number = number.wrapping_add(if random.below(8) == 0 { 2 } else { 1 });
-    }
-    if !text.is_empty() {
-        let at = random.below(text.len() as u64) as usize;
-        match random.below(12) {
-            0 => text[at] = random.pick(b"0F9A\nag G"),
-            1 => drop(text.remove(at)),
-            2 => text.insert(at, random.pick(b"0F\r\n ")),
-            3 => drop(text.pop()),
-            4 => text[at] = text[at].wrapping_add(1),
-            _ => (),
-        }
-    }
-    text.truncate(192);
-    text
-}
-
-/// Captures read and written by `lines`; the rooms have 20 places.
-fn capture(lines: &mut Lines) {
-    for _ in 0..250 {
-        let text = text(&mut lines.random);
-        let (mut volts, mut amps) = ([7; 20], [8; 20]);
-        let needed = lines::pairs_of(&text).map_or(3, |pairs| pairs.len() as u64);
-        let [nv, na] = [0; 2].map(|_| {
-            lines
-                .random
-                .pick(&[needed, needed, needed + 1, 20, 20, needed.max(1) - 1])
-                .min(20) as usize
-        });
-        let read = lines::read(&text, &mut volts[..nv], &mut amps[..na]);
-        let mut words = vec![text.len() as u32, nv as u32, na as u32];
-        words.extend(pairs(&volts, &amps));
-        words.extend(packed(&text));
-        let code = read.code as u32 + 16 * read.line as u32 + 65_536 * read.pairs as u32;
-        lines.line(
-            1,
-            &Given {
-                words,
-                ..Given::default()
-            },
-            &Said {
-                code,
-                ..Said::default()
-            },
-        );
-    }
-    for round in 0..150 {
-        let codes = [0; 40].map(|_| lines.random.bits() as i16);
-        let (volts, amps) = codes.split_at(20);
-        let nv = lines.random.below(21) as usize;
-        let na = if round % 10 == 0 {
-            lines.random.below(21) as usize
-        } else {
-            nv
-        };
-        let first = lines.random.pick(&[0, 7, 0xFFFF, 0xABCD]);
-        let mut text = [b'.'; 192];
-        let needed = lines::write(&volts[..nv], &amps[..na], first, &mut text).bytes;
-        let room = lines
-            .random
-            .pick(&[needed, needed, needed + 1, 192, needed.max(1) - 1])
-            .min(192);
-        text = [b'.'; 192];
-        let written = lines::write(&volts[..nv], &amps[..na], first, &mut text[..room]);
-        let mut words = vec![first as u32, room as u32, nv as u32, na as u32];
-        words.extend(pairs(volts, amps));
-        words.extend(packed(&text[..room]));
-        let code = written.code as u32 + 16 * written.bytes as u32;
-        lines.line(
-            2,
-            &Given {
-                words,
-                ..Given::default()
-            },
-            &Said {
-                code,
-                ..Said::default()
-            },
-        );
-    }
-}
-
-/// Writes every file, and says how many lines there are in all.
+/// Writes every file, and says how many lines each program has.
 pub fn write() -> ExitCode {
-    let mut total = 0;
-    for ((name, area), item) in AREAS.iter().zip(1..) {
-        let mut lines = Lines {
-            random: Random::new(100 + item as u64),
-            item,
-            text: String::new(),
-        };
-        area(&mut lines);
-        total += lines.text.lines().count();
-        std::fs::write(format!("{DATA}/{name}"), lines.text).expect("crates/replay/data can be written");
+    for program in ["replay", "replay_signal", "replay_lines"] {
+        let mut total = 0;
+        for (_, name, seed, item, make) in FILES.iter().filter(|file| file.0 == program) {
+            let mut lines = Lines {
+                random: Random::new(*seed),
+                item: *item,
+                text: String::new(),
+            };
+            make(&mut lines);
+            total += lines.text.lines().count();
+            std::fs::write(format!("{CRATES}/{program}/data/{name}"), lines.text).expect("its data can be written");
+        }
+        println!("{program}: {total} cases");
     }
-    println!("{total} cases");
     ExitCode::SUCCESS
 }

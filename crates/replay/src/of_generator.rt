@@ -1,10 +1,10 @@
 // The generator: the wave, the amplitude, the phase, the frequency, the duty cycle.
-use crate::read;
-use crate::said;
-use crate::said::Said;
+use replaying::read;
+use replaying::said;
+use replaying::said::Said;
 
 pub fn call(line: &[u8], out: &mut [f32]) -> Said {
-    let wave = read::wave(line, 4);
+    let wave = generator::wave_of(read::byte(line, 4));
     let amplitude = read::float(line, 5);
     let phase = read::float(line, 6);
     let frequency = read::float(line, 7);

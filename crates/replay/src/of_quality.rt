@@ -1,33 +1,20 @@
 // Distortion, effective bits and the quotients. Of a quotient the first float is 0 for a ratio, 1 for no spur, 2 for an unusable bin.
-use crate::read;
-use crate::read::ROOM;
-use crate::said;
-use crate::said::Said;
 use quality::Quotient;
 use quality::QuotientAnswer;
 use quality::Sfdr;
 use quality::SfdrAnswer;
+use replaying::lists::ROOM;
+use replaying::read;
+use replaying::said;
+use replaying::said::Said;
 
 // The ratio is the f64.
 fn quotient(r: QuotientAnswer) -> Said {
     let outcome = r.outcome;
     let quotient = r.quotient;
-    let code = said::code_of(outcome);
-    let mut floats = [0.0f32; ROOM];
     match quotient {
-        Quotient::Ratio(x) => Said {
-            code,
-            wide: x,
-            floats,
-        },
-        Quotient::UnusableBin => {
-            floats[0] = 2.0;
-            Said {
-                code,
-                wide: 0.0,
-                floats,
-            }
-        }
+        Quotient::Ratio(x) => said::with_double(outcome, x),
+        Quotient::UnusableBin => said::with_float(outcome, 2.0),
     }
 }
 

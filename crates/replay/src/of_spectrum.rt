@@ -1,9 +1,9 @@
-// The spectrum, and the same with a scratch of as many places as the line says.
-use crate::read;
-use crate::read::ROOM;
-use crate::said;
-use crate::said::Said;
+// The spectrum, and the same with a scratch. Behind the scratch's length a line has what stands in it afterwards, as f64.
 use answers::Outcome;
+use replaying::lists::ROOM;
+use replaying::read;
+use replaying::said;
+use replaying::said::Said;
 
 fn on_part(scratch: &mut [f64], n: usize, a: &[f32], out: &mut [f32]) -> Outcome {
     let n = read::least(n, scratch.len());
@@ -11,15 +11,34 @@ fn on_part(scratch: &mut [f64], n: usize, a: &[f32], out: &mut [f32]) -> Outcome
     spectrum::dft_magnitude_spectrum_in(a, &mut scratch[from..n], out)
 }
 
-fn with_scratch(n: usize, a: &[f32], out: &mut [f32]) -> Said {
-    let mut scratch = [0.0f64; ROOM];
-    said::ended(on_part(&mut scratch, n, a, out))
+// Whether the f64 from word i on stand in the first n places.
+fn same_sines(line: &[u8], i: usize, n: usize, sines: &[f64]) -> bool {
+    if sines.len() < n {
+        return false;
+    }
+    let mut at = i;
+    let mut all = true;
+    let mut k = 0usize;
+    while k < n {
+        all = all & said::same64(read::double(line, at), sines[k]);
+        at = read::behind(at, 2);
+        k += 1;
+    }
+    all
+}
+
+// Before, 0.75 stands in each place: no sine of a list that fits.
+fn with_scratch(line: &[u8], a: &[f32], out: &mut [f32]) -> Said {
+    let mut scratch = [0.75f64; ROOM];
+    let n = read::size(line, 4);
+    let outcome = on_part(&mut scratch, n, a, out);
+    said::where_right(same_sines(line, 5, n, &scratch), outcome)
 }
 
 pub fn call(line: &[u8], which: u32, a: &[f32], out: &mut [f32]) -> Said {
     match which {
         1 => said::ended(spectrum::dft_magnitude_spectrum(a, out)),
-        2 => with_scratch(read::count(line, 4), a, out),
+        2 => with_scratch(line, a, out),
         _ => said::nothing(),
     }
 }

@@ -7,34 +7,16 @@ use Rattle.replay.proofs.replay.Statement.{statement}
 use Rattle.replay.proofs.replay.Tie as tie
 
 abbrev Inv-loop : tie.InvT-loop
-Inv-loop «data» tally₀ at₀ tally at = at ≤ length «data»
+Inv-loop cases tally₀ at₀ tally at = at ≤ length cases
 
 abbrev μ-loop : tie.MeasureT-loop
-μ-loop «data» tally₀ at₀ tally at = length «data» - at
+μ-loop cases tally₀ at₀ tally at = length cases - at
 
 loop-holds : tie.Need-loop-holds Inv-loop μ-loop
 loop-holds c = omega arith
 
-sub-size-of : tie.Need-sub-size-of Inv-loop μ-loop
-sub-size-of c = omega arith
-
-part-size-of-start : tie.Need-part-size-of-start Inv-loop μ-loop
-part-size-of-start c = omega arith
-
-part-size-of-end : tie.Need-part-size-of-end Inv-loop μ-loop
-part-size-of-end c = omega arith
-
-size-of-requires : tie.Need-size-of-requires Inv-loop μ-loop
-size-of-requires c κs = search needs
-
-sub-least : tie.Need-sub-least Inv-loop μ-loop
-sub-least c = omega arith
-
-least-requires : tie.Need-least-requires Inv-loop μ-loop
-least-requires c κs = search needs
-
-add-end : tie.Need-add-end Inv-loop μ-loop
-add-end c = omega arith
+line-end-requires : tie.Need-line-end-requires Inv-loop μ-loop
+line-end-requires c κs = search needs
 
 sub-agrees : tie.Need-sub-agrees Inv-loop μ-loop
 sub-agrees c = omega arith
@@ -67,13 +49,7 @@ replay-spec =
     Inv-loop
     μ-loop
     loop-holds
-    sub-size-of
-    part-size-of-start
-    part-size-of-end
-    size-of-requires
-    sub-least
-    least-requires
-    add-end
+    line-end-requires
     sub-agrees
     part-agrees-start
     part-agrees-end

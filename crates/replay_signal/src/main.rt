@@ -1,0 +1,78 @@
+// Replays a sample of the oracle's answers over time figures, ports and signals: 01's items 5, 9 and 10. Prints how many cases there were, and how many
+// answers differ. replaying says how a case stands in its line.
+use replaying::files;
+use replaying::files::Tally;
+use replaying::lists;
+use replaying::lists::Places;
+use replaying::read;
+use replaying::said;
+use replaying::said::Said;
+
+mod of_figures;
+mod of_port;
+mod of_signal;
+
+// The call that a line names, on these slices.
+fn call(line: &[u8], a: &[f32], out: &mut [f32]) -> Said {
+    let which = read::word(line, 2);
+    match read::word(line, 1) {
+        5 => of_figures::call(line, a),
+        9 => of_port::call(line, which),
+        10 => of_signal::call(line, which, out),
+        _ => said::nothing(),
+    }
+}
+
+// The call on the first places of these.
+fn on_parts(line: &[u8], at: Places, a: &[f32], out: &mut [f32]) -> Said {
+    let na = read::least(at.na, a.len());
+    let n = read::least(at.n, out.len());
+    let from = 0usize;
+    call(line, &a[from..na], &mut out[from..n])
+}
+
+// Whether the library answers as the oracle did, with the line's slices in these.
+fn on(line: &[u8], at: Places, a: &mut [f32], out: &mut [f32]) -> bool {
+    lists::fill(line, at.a, at.na, a);
+    lists::fill(line, at.out, at.n, out);
+    let said = on_parts(line, at, a, out);
+    said::same(line, at.said, said, at.n, out)
+}
+
+// One place more than a slice may have, where that is what a case is about.
+fn agrees(line: &[u8]) -> bool {
+    let at = lists::placed(line);
+    if lists::is_long(at) {
+        return on(line, at, &mut [0.0f32; 65537], &mut [0.0f32; 65537]);
+    }
+    on(line, at, &mut [0.0f32; 32], &mut [0.0f32; 32])
+}
+
+fn replay(cases: &[u8], before: Tally) -> Tally {
+    let mut tally = before;
+    let mut at = 0usize;
+    while at < cases.len() {
+        let end = files::line_end(cases, at);
+        tally = files::counted(tally, agrees(&cases[at..end]));
+        at = end;
+    }
+    tally
+}
+
+// The cases of one file, after those before.
+fn file_in(room: &mut [u8], name: &[u8], before: Tally) -> Tally {
+    let n = files::load(name, room);
+    replay(&room[..n], before)
+}
+
+fn file(name: &[u8], before: Tally) -> Tally {
+    file_in(&mut [0u8; 262144], name, before)
+}
+
+fn main() {
+    let tally = file(b"figures", files::none());
+    let tally = file(b"port", tally);
+    let tally = file(b"signal", tally);
+    let tally = file(b"limits", tally);
+    files::print(tally);
+}

@@ -1,0 +1,333 @@
+//! The limit of 65,536: slices of that many places and of one more. What is refused with 3, and before it what would be refused otherwise, comes from 01.
+
+use super::captures::{pairs, power};
+use super::{reading, shown, with_thd, word, words, Given, Lines, Said, SCRATCH};
+use crate::generator::wave_of;
+use crate::lines::{self, LONGEST};
+use crate::quality::cut;
+use crate::signal::{self, Signal, SignalMetrics};
+
+/// The longest slice that is taken, and the shortest that isn't.
+const LENGTHS: [usize; 2] = [LONGEST, LONGEST + 1];
+
+/// 3 where one of these lengths is too long, and else the code given.
+fn limited(lengths: &[usize], code: u32) -> u32 {
+    match lengths.iter().max() > Some(&LONGEST) {
+        true => 3,
+        false => code,
+    }
+}
+
+/// So many places with one number in each.
+fn level(n: usize) -> Vec<f32> {
+    vec![1.5; n]
+}
+
+/// One call of 01's item: the code, and, where that is 0, what the Rust says and leaves; else zeros, as many, and nothing written.
+fn case(lines: &mut Lines, item: u32, which: u32, given: &Given, code: u32, answer: impl Fn(&Given, &mut Said)) {
+    let mut said = Said {
+        out: given.out.clone(),
+        ..Said::default()
+    };
+    answer(given, &mut said);
+    if code > 0 {
+        said.wide = 0.0;
+        said.floats.fill(0.0);
+        said.out = given.out.clone();
+    }
+    said.code = code;
+    lines.item = item;
+    lines.line(which, given, &said);
+}
+
+/// The calls that are given samples or magnitudes.
+pub fn slices(lines: &mut Lines) {
+    for n in LENGTHS {
+        let code = limited(&[n], 0);
+        let on = |words: Vec<u32>, a: Vec<f32>, out: Vec<f32>| Given {
+            words,
+            a,
+            out,
+            ..Given::default()
+        };
+        let by = vec![word(&0.25)];
+        for (which, call) in [(1, signal::add_dc_offset as fn(&mut [f32], f32)), (2, signal::scale)] {
+            case(lines, 2, which, &on(by.clone(), vec![], level(n)), code, |_, said| {
+                call(&mut said.out, 0.25)
+            });
+        }
+        for (which, call) in [
+            (1, signal::measure_frequency as fn(&[f32], f32) -> f32),
+            (2, signal::slew_rate),
+        ] {
+            case(
+                lines,
+                3,
+                which,
+                &on(by.clone(), level(n), vec![]),
+                code,
+                |given, said| said.floats = vec![call(&given.a, 0.25)],
+            );
+        }
+        spectra(lines, n);
+        qualities(lines, n);
+        let settings: Vec<u32> = [0.5, 90.0, 2.0, 0.25].iter().map(word).collect();
+        let words = [&[0], &settings[..]].concat();
+        case(lines, 8, 1, &on(words, vec![], level(n)), code, |_, said| {
+            Signal::tail_generate(wave_of(0), 0.5, 90.0, 2.0, 0.25, &mut said.out)
+        });
+    }
+    two_slices(lines);
+}
+
+/// `add_signals`, whose output may have any length, and `compute_power`.
+fn two_slices(lines: &mut Lines) {
+    let [taken, refused] = LENGTHS;
+    for (na, nb, n) in [
+        (taken, taken, taken),
+        (refused, refused, refused),
+        (taken, 3, 2),
+        (refused, 3, 2),
+        (3, taken, 2),
+        (3, refused, 2),
+        (refused, 0, 0),
+        (0, 3, refused),
+        (3, 0, refused),
+    ] {
+        let given = Given {
+            a: level(na),
+            b: vec![0.25; nb],
+            out: vec![-77.25; n],
+            ..Given::default()
+        };
+        case(lines, 2, 3, &given, limited(&[na, nb], 0), |given, said| {
+            signal::add_signals(&given.a, &given.b, &mut said.out)
+        });
+    }
+    for (na, nb) in [
+        (taken, taken),
+        (refused, refused),
+        (refused, 2),
+        (2, refused),
+        (taken, refused),
+        (taken, 2),
+        (2, taken),
+    ] {
+        let given = Given {
+            a: level(na),
+            b: vec![0.25; nb],
+            ..Given::default()
+        };
+        let code = limited(&[na, nb], (na != nb) as u32);
+        case(lines, 4, 1, &given, code, |given, said| {
+            let (p, q, s, pf) = match na == nb {
+                true => signal::compute_power(&given.a, &given.b, 1.0),
+                false => (0.0, 0.0, 0.0, 0.0),
+            };
+            said.floats = vec![p, q, s, pf];
+        });
+    }
+}
+
+/// Both calls, with room and with too little: 3 comes before 4, and 4 before 2.
+fn spectra(lines: &mut Lines, n: usize) {
+    for (which, scratch) in [(1, 0), (2, 4)] {
+        let kept = vec![SCRATCH; scratch].into_iter().flat_map(words);
+        let given = Given {
+            words: [scratch as u32].into_iter().chain(kept).collect(),
+            a: level(n),
+            out: vec![-77.25; 2],
+            ..Given::default()
+        };
+        case(lines, 6, which, &given, limited(&[n], 4), |_, _| ());
+    }
+}
+
+/// Distortion and the quotients at a bin that is usable and at one that isn't.
+fn qualities(lines: &mut Lines, n: usize) {
+    let code = limited(&[n], 0);
+    for bin in [1, 0, n] {
+        let given = Given {
+            words: vec![0, bin as u32],
+            a: level(n),
+            ..Given::default()
+        };
+        case(lines, 7, 1, &given, code, |given, said| {
+            said.floats = vec![signal::compute_thd_from_spectrum(&given.a, bin)]
+        });
+        for (which, cut) in [(3, cut::cut_snr as fn(&[f32], usize) -> (u8, f64)), (4, cut::cut_sinad)] {
+            case(lines, 7, which, &given, code, |given, said| {
+                let (kind, wide) = cut(&given.a, bin);
+                (said.wide, said.floats) = (wide, vec![kind as f32]);
+            });
+        }
+        case(lines, 7, 5, &given, code, |given, said| {
+            let (kind, ratio) = cut::cut_sfdr(&given.a, bin);
+            said.floats = vec![kind as f32, ratio as f32];
+        });
+    }
+}
+
+pub fn signals(lines: &mut Lines) {
+    lines.item = 5;
+    figures(lines);
+    lines.item = 10;
+    for n in LENGTHS {
+        let power_port = [&[word(&2.0), word(&3.0)][..], &reading(Some(50.0))].concat();
+        for (which, made) in [(1, vec![1, word(&2.0), word(&3.0), 0]), (2, power_port)] {
+            let floats = [[0.0; 27].to_vec(), vec![-1.0; 4]].concat();
+            refused(lines, which, n, &made, &[0, 0, 0], floats);
+        }
+    }
+    // `new` is on eight samples here, and what is set on n
+    for n in [3, 12, LONGEST, LONGEST + 1] {
+        for settings in [[1, 0, 0], [2, 0, 0], [3, 0, 0], [3, 2, 1]] {
+            let mut eight = [0.0; 8];
+            let mut signal = Signal::new(wave_of(2), 2.0, 1.0, &mut eight);
+            with_thd(&mut signal, 0.0);
+            refused(lines, 3, n, &[2, word(&2.0), word(&1.0), 0], &settings, shown(&signal));
+        }
+    }
+}
+
+/// The time figures, whose earlier record comes back.
+fn figures(lines: &mut Lines) {
+    for n in LENGTHS {
+        let earlier = SignalMetrics::tail_from(&[0; 24].map(|_| lines.random.unit() as f32));
+        let mut list = level(n);
+        let mut signal = Signal::tail_over(wave_of(2), 2.0, 3.0, &earlier, &mut list);
+        if n <= LONGEST {
+            signal.tail_calculate();
+        }
+        let mut words = vec![2, word(&2.0), word(&3.0)];
+        words.extend(earlier.tail_time().iter().map(word));
+        let given = Given {
+            words,
+            a: level(n),
+            ..Given::default()
+        };
+        let said = Said {
+            code: limited(&[n], 0),
+            floats: signal.get_metrics().tail_time().to_vec(),
+            ..Said::default()
+        };
+        lines.line(1, &given, &said);
+    }
+}
+
+/// A signal made so, and three settings, on n samples that are refused: what is shown of its state.
+fn refused(lines: &mut Lines, which: u32, n: usize, made: &[u32], settings: &[u32; 3], floats: Vec<f32>) {
+    let values = [45.0, 0.75, 0.5];
+    let settings = settings
+        .iter()
+        .zip(&values)
+        .flat_map(|(setting, x)| [*setting, word(x)]);
+    let given = Given {
+        words: made.iter().copied().chain(settings).collect(),
+        out: level(n),
+        ..Given::default()
+    };
+    let said = Said {
+        code: limited(&[n], 4),
+        floats,
+        out: given.out.clone(),
+        ..Said::default()
+    };
+    lines.line(which, &given, &said);
+}
+
+// ---------------------------------------------------------------------------- captures
+
+/// Codes of which the program makes as many as it needs.
+const CODES: (i16, i16) = (7, 8);
+
+/// A capture of 65,536 pairs, and one pair more in a line of its own.
+fn long_text() -> Vec<u8> {
+    let mut text = vec![0; 561_152];
+    lines::write(&vec![CODES.0; LONGEST], &vec![CODES.1; LONGEST], 0, &mut text);
+    text.extend(lines::line_of(4096, &[CODES]));
+    text
+}
+
+pub fn captures(lines: &mut Lines) {
+    lines.item = 11;
+    reads(lines);
+    writes(lines);
+    lines.item = 4;
+    powers(lines);
+}
+
+/// The text's length, and the rooms.
+fn reads(lines: &mut Lines) {
+    let [taken, over] = LENGTHS;
+    let text = long_text();
+    for (n, nv, na) in [
+        (561_152, over, over),
+        (561_152, taken, taken),
+        (561_152, taken, taken - 1),
+        (561_152, 4, 4),
+        (561_168, over, over),
+        (561_169, over, over),
+        (561_169, taken, taken),
+        (561_169, 4, 4),
+    ] {
+        let (mut volts, mut amps) = (vec![5; over], vec![6; over]);
+        let read = lines::read(&text[..n], &mut volts[..nv], &mut amps[..na]);
+        let mut words: Vec<u32> = [n, nv, na, read.line, read.pairs].iter().map(|x| *x as u32).collect();
+        for k in [0, LONGEST - 1, LONGEST] {
+            words.push(k as u32);
+            words.extend(pairs(&volts[k..=k], &amps[k..=k]));
+        }
+        ended(lines, 5, words, read.code);
+    }
+}
+
+/// The counts of codes, and the room.
+fn writes(lines: &mut Lines) {
+    let [taken, over] = LENGTHS;
+    for (nv, na, n) in [
+        (taken, taken, 561_169),
+        (taken, taken, 561_152),
+        (taken, taken, 561_151),
+        (taken, taken - 1, 561_169),
+        (over, over, 561_169),
+        (over, 1, 561_169),
+        (1, over, 561_169),
+        (over, over, 4),
+    ] {
+        let mut text = vec![b'.'; 561_169];
+        let written = lines::write(&vec![CODES.0; nv], &vec![CODES.1; na], 0, &mut text[..n]);
+        let mut words: Vec<u32> = [nv, na, n, written.bytes].iter().map(|x| *x as u32).collect();
+        for k in [0, 561_151, 561_152] {
+            words.extend([k as u32, text[k] as u32]);
+        }
+        ended(lines, 6, words, written.code);
+    }
+}
+
+/// The counts of codes.
+fn powers(lines: &mut Lines) {
+    let [taken, over] = LENGTHS;
+    for (nv, na) in [(taken, taken), (over, over), (over, 2), (2, over), (taken, taken - 1)] {
+        let given = Given {
+            words: vec![nv as u32, na as u32],
+            ..Given::default()
+        };
+        lines.line(7, &given, &power(&vec![CODES.0; nv], &vec![CODES.1; na]));
+    }
+}
+
+fn ended(lines: &mut Lines, which: u32, words: Vec<u32>, code: u8) {
+    let given = Given {
+        words,
+        ..Given::default()
+    };
+    lines.line(
+        which,
+        &given,
+        &Said {
+            code: code as u32,
+            ..Said::default()
+        },
+    );
+}
