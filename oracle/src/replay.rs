@@ -18,7 +18,7 @@ const CRATES: &str = concat!(env!("CARGO_MANIFEST_DIR"), "/../crates");
 const ROOM: usize = 32;
 
 /// The files: the program, the name, the seed, 01's item, and what makes the lines.
-const FILES: [(&str, &str, u64, u32, fn(&mut Lines)); 16] = [
+const FILES: [(&str, &str, u64, u32, fn(&mut Lines)); 17] = [
     ("replay", "number", 101, 1, number),
     ("replay", "samples", 102, 2, samples),
     ("replay", "timing", 103, 3, timing),
@@ -32,6 +32,7 @@ const FILES: [(&str, &str, u64, u32, fn(&mut Lines)); 16] = [
     ("replay_lines", "capture", 111, 11, captures::capture),
     ("replay_lines", "codes", 112, 4, captures::codes),
     ("replay_lines", "report", 113, 11, captures::report),
+    ("replay_signal", "held", 112, 12, held),
     ("replay", "limits", 114, 0, limits::slices),
     ("replay_signal", "limits", 115, 0, limits::signals),
     ("replay_lines", "limits", 116, 0, limits::captures),
@@ -642,7 +643,25 @@ fn shown(signal: &Signal) -> Vec<f32> {
     out
 }
 
-/// A signal or a power port, and three settings. Off the grid every call is refused: 4, and all zero or absent.
+/// What a signal answers and leaves; off the grid every call is refused: 4, and all zero or absent.
+fn answered(signal: &Signal, earlier: &[f32]) -> Said {
+    let n = earlier.len();
+    if n == 0 || n.is_power_of_two() {
+        return Said {
+            floats: shown(signal),
+            out: signal.get_samples().to_vec(),
+            ..Said::default()
+        };
+    }
+    Said {
+        code: 4,
+        floats: [[0.0; 27].to_vec(), vec![-1.0; 4]].concat(),
+        out: earlier.to_vec(),
+        ..Said::default()
+    }
+}
+
+/// A signal or a power port, and three settings.
 fn signals(lines: &mut Lines) {
     for round in 0..300 {
         let n = lines.random.pick(&[0, 1, 2, 4, 8, 8, 16, 16, 32, 3, 12]);
@@ -683,22 +702,43 @@ fn signals(lines: &mut Lines) {
             }
             words.extend([setting as u32, word(&x)]);
         }
-        let said = if n == 0 || n.is_power_of_two() {
-            Said {
-                floats: shown(&signal),
-                out: signal.get_samples().to_vec(),
-                ..Said::default()
-            }
-        } else {
-            Said {
-                code: 4,
-                floats: [[0.0; 27].to_vec(), vec![-1.0; 4]].concat(),
-                out: out.clone(),
-                ..Said::default()
-            }
-        };
+        let said = answered(&signal, &out);
         lines.line(
             which,
+            &Given {
+                words,
+                out,
+                ..Given::default()
+            },
+            &said,
+        );
+    }
+}
+
+/// The sequences of crate `sequences` on a signal that keeps its samples.
+fn held(lines: &mut Lines) {
+    for _ in 0..300 {
+        let n = lines.random.pick(&[0, 1, 2, 4, 8, 8, 16, 16, 32, 3, 12]);
+        let out = lines.random.samples(Kind::Small, n);
+        let (wave, amplitude) = (lines.random.below(4) as u8, lines.setting());
+        let frequency = (lines.random.unit() * n as f64 / 3.0) as f32;
+        let (duty, phase) = (lines.random.unit() as f32 * 1.25, lines.random.unit() as f32 * 360.0);
+        let mut samples = out.clone();
+        let mut signal = Signal::new(wave_of(wave), amplitude, frequency, &mut samples);
+        with_thd(&mut signal, 0.0);
+        let earlier = signal.get_metrics().thd;
+        signal.set_duty_cycle(duty);
+        with_thd(&mut signal, earlier);
+        let earlier = signal.get_metrics().thd;
+        signal.set_phase(phase);
+        with_thd(&mut signal, earlier);
+        let said = answered(&signal, &out);
+        let words = [wave as u32]
+            .into_iter()
+            .chain([amplitude, frequency, duty, phase].iter().map(word))
+            .collect();
+        lines.line(
+            1,
             &Given {
                 words,
                 out,

@@ -9,6 +9,7 @@ use replaying::said;
 use replaying::said::Said;
 
 mod of_figures;
+mod of_held;
 mod of_port;
 mod of_signal;
 
@@ -19,6 +20,7 @@ fn call(line: &[u8], a: &[f32], out: &mut [f32]) -> Said {
         5 => of_figures::call(line, a),
         9 => of_port::call(line, which),
         10 => of_signal::call(line, which, out),
+        12 => of_held::call(line, out),
         _ => said::nothing(),
     }
 }
@@ -73,6 +75,7 @@ fn main() {
     let tally = file(b"figures", files::none());
     let tally = file(b"port", tally);
     let tally = file(b"signal", tally);
+    let tally = file(b"held", tally);
     let tally = file(b"limits", tally);
     files::print(tally);
 }

@@ -91,7 +91,7 @@ fn with_port(list: [f32; ROOM], port: Port) -> [f32; ROOM] {
 }
 
 // The metrics, the shape and the port.
-fn list(state: State) -> [f32; ROOM] {
+pub fn list(state: State) -> [f32; ROOM] {
     let metrics = signal::get_metrics(state);
     let figures = metrics.figures;
     let shape = state.shape;

@@ -1,0 +1,59 @@
+-- Each call leaves as many samples as there were, refused or not.
+-- Assumes nothing.
+use mathlib.Core.Path.{_≡_, refl, _∙_, ap}
+use mathlib.Core.Bool.{Bool, true, false, cond}
+use mathlib.Core.List.{List}
+use Prim.Native.Nat.{ℕ}
+use lib.Ieee.{Float}
+use lib.ListN.{length}
+use Rattle.answers.specs.Numbers.{tooLong}
+use Rattle.answers.specs.Written.{written}
+use Rattle.answers.specs.declared.Outcome.the-variants.{Done, TooLong, OffGrid}
+use Rattle.laws.specs.Literals.{zero32}
+use Rattle.laws.specs.Filled.{filled}
+use Rattle.laws.proofs.Filling.{filled-length}
+use Rattle.generator.specs.declared.Wave.{Wave}
+use Rattle.generator.specs.declared.Shape.{Shape}
+use Rattle.generator.specs.Sample.{generated, sampleAt}
+use Rattle.port.specs.declared.Reading.{Reading}
+use Rattle.spectrum.specs.Grid.{onGrid}
+use Rattle.signal.specs.declared.State.{State}
+use Rattle.signal.specs.Calls.{Left, left, answer, judged, made, remade, newOf, phaseSet, dutySet, portOf, resetOf}
+
+generated-length : (s : Shape) (xs : List Float) → length (generated s xs .places) ≡ length xs
+unfolding generated
+generated-length s xs = go (tooLong (length xs))
+  where
+    go : (b : Bool) → length (cond b (written TooLong xs) (written Done (filled (sampleAt s (length xs)) (length xs) xs)) .places) ≡ length xs
+    go true = refl
+    go false = filled-length (sampleAt s (length xs)) (length xs) xs
+
+judged-length : (s : State) (xs : List Float) (done : Left) → length (done .places) ≡ length xs → length (judged s xs done .places) ≡ length xs
+unfolding judged
+judged-length s xs done e = go (tooLong (length xs)) (onGrid (length xs))
+  where
+    go : (b c : Bool) → length (cond b (left (answer TooLong s) xs) (cond c done (left (answer OffGrid s) xs)) .places) ≡ length xs
+    go true c = refl
+    go false true = e
+    go false false = refl
+
+remade-length : (top : ℕ) (earlier next : State) (xs : List Float) → length (remade top earlier next xs .places) ≡ length xs
+unfolding remade made
+remade-length top earlier next xs = judged-length earlier xs (made top next xs) (generated-length (next .shape) xs)
+
+pub new-length : (top : ℕ) (wave : Wave) (amplitude frequency : Float) (xs : List Float) → length (newOf top wave amplitude frequency xs .places) ≡ length xs
+new-length top wave amplitude frequency xs = remade-length top _ _ xs
+
+pub phase-length : (top : ℕ) (s : State) (phase : Float) (xs : List Float) → length (phaseSet top s phase xs .places) ≡ length xs
+phase-length top s phase xs = remade-length top _ _ xs
+
+pub duty-length : (top : ℕ) (s : State) (duty : Float) (xs : List Float) → length (dutySet top s duty xs .places) ≡ length xs
+duty-length top s duty xs = remade-length top _ _ xs
+
+pub port-length : (top : ℕ) (voltage current : Float) (frequency : Reading) (xs : List Float) → length (portOf top voltage current frequency xs .places) ≡ length xs
+unfolding portOf
+port-length top voltage current frequency xs = judged-length _ xs _ (generated-length _ xs)
+
+pub reset-length : (s : State) (xs : List Float) → length (resetOf s xs .places) ≡ length xs
+unfolding resetOf
+reset-length s xs = judged-length s xs _ (filled-length (λ (j : ℕ). zero32) (length xs) xs)
