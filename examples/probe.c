@@ -38,5 +38,8 @@ int main(void) {
     return 1;
   signal = tj_signal_set_duty_cycle(signal.signal, 0.25f, samples, 16);
   printf("duty cycle %g of amplitude %g\n", (double)signal.signal.figures.duty_cycle_pos, (double)signal.signal.amplitude);
+
+  tj_set_harmonic(signal.signal.port.voltage_harmonics, 3, (tj_reading){true, 1.5f});
+  printf("third voltage harmonic %g%%\n", (double)tj_harmonic(signal.signal.port.voltage_harmonics, 3).value);
   return signal.code;
 }

@@ -78,6 +78,8 @@ extern "C" {
     fn tj_current_harmonic(port: Port, n: u8) -> Reading;
     fn tj_set_voltage_harmonic(port: Port, n: u8, value: Reading) -> Port;
     fn tj_set_current_harmonic(port: Port, n: u8, value: Reading) -> Port;
+    fn tj_harmonic(harmonics: *const Reading, n: u8) -> Reading;
+    fn tj_set_harmonic(harmonics: *mut Reading, n: u8, value: Reading);
 }
 
 impl Port {
@@ -228,12 +230,17 @@ pub fn set(random: &mut Random, ours: &mut Port, theirs: &mut Signal) {
         }
         kind => {
             let (n, value) = (place(random), reading(random));
-            if kind % 2 == 0 {
-                *ours = unsafe { tj_set_voltage_harmonic(*ours, n, value) };
-                theirs.set_voltage_harmonic(n, value.into());
-            } else {
-                *ours = unsafe { tj_set_current_harmonic(*ours, n, value) };
-                theirs.set_current_harmonic(n, value.into());
+            match kind % 2 {
+                0 => theirs.set_voltage_harmonic(n, value.into()),
+                _ => theirs.set_current_harmonic(n, value.into()),
+            }
+            unsafe {
+                match kind {
+                    22 => *ours = tj_set_voltage_harmonic(*ours, n, value),
+                    21 | 23 => *ours = tj_set_current_harmonic(*ours, n, value),
+                    24 | 26 => tj_set_harmonic(ours.voltage_harmonics.as_mut_ptr(), n, value),
+                    _ => tj_set_harmonic(ours.current_harmonics.as_mut_ptr(), n, value),
+                }
             }
         }
     }
@@ -244,6 +251,7 @@ pub fn compare(rounds: u64, log: &mut Log) {
     let power = log.check("tj_instantaneous_power, instantaneous_power");
     let voltage = log.check("tj_voltage_harmonic, voltage_harmonic");
     let current = log.check("tj_current_harmonic, current_harmonic");
+    let lent = log.check("tj_harmonic, voltage_harmonic and current_harmonic");
     let mut random = Random::new(9);
     for _ in 0..rounds {
         let (volts, amps, frequency) = (number(&mut random), number(&mut random), reading(&mut random));
@@ -260,10 +268,42 @@ pub fn compare(rounds: u64, log: &mut Log) {
                 });
                 let (a, b) = (tj_voltage_harmonic(ours, n), theirs.voltage_harmonic(n).into());
                 log.see(voltage, a.same(b), || format!("{}: {:?}, Rust {:?}", n, a, b));
+                let a = tj_harmonic(ours.voltage_harmonics.as_ptr(), n);
+                log.see(lent, a.same(b), || format!("{}: {:?}, Rust {:?}", n, a, b));
                 let (a, b) = (tj_current_harmonic(ours, n), theirs.current_harmonic(n).into());
                 log.see(current, a.same(b), || format!("{}: {:?}, Rust {:?}", n, a, b));
+                let a = tj_harmonic(ours.current_harmonics.as_ptr(), n);
+                log.see(lent, a.same(b), || format!("{}: {:?}, Rust {:?}", n, a, b));
             }
         }
+    }
+    compare_places(rounds, log);
+}
+
+/// Lent places that hold anything, absent ones a value too, with one more at either end: only the place that is set changes.
+fn compare_places(rounds: u64, log: &mut Log) {
+    let set = log.check("tj_set_harmonic, every place and those beside");
+    let get = log.check("tj_harmonic, the same places");
+    let mut random = Random::new(19);
+    let mut any = || Reading {
+        present: random.below(2) == 0,
+        value: number(&mut random),
+    };
+    let mut beside = Random::new(29);
+    for _ in 0..rounds {
+        let (n, value) = (place(&mut beside), any());
+        let mut lent = [ABSENT; 18].map(|_| any());
+        let mut expected = lent;
+        if n < 16 {
+            expected[n as usize + 1] = Option::from(value).into();
+        }
+        unsafe { tj_set_harmonic(lent[1..].as_mut_ptr(), n, value) };
+        let same = lent.iter().zip(expected).all(|(a, b)| a.same(b));
+        log.see(set, same, || format!("{}: {:?}, expected {:?}", n, lent, expected));
+        let n = place(&mut beside);
+        let a = unsafe { tj_harmonic(lent[1..].as_ptr(), n) };
+        let b = expected[1..17].get(n as usize).map_or(ABSENT, |r| Option::from(*r).into());
+        log.see(get, a.same(b), || format!("{}: {:?}, expected {:?}", n, a, b));
     }
 }
 
@@ -271,34 +311,59 @@ pub fn bench(table: &mut Table) {
     let mut signal = Signal::new_power_port(230.0, 5.0, Some(50.0), &mut []);
     let mut port = Port::of(&signal);
     let value: Reading = Some(2.5).into();
+    let mut theirs = || {
+        for n in 0..16 {
+            signal.set_voltage_harmonic(black_box(n), black_box(Some(2.5)));
+            black_box(&mut signal);
+        }
+    };
+    table.each("set_voltage_harmonic, in place", 16, &mut theirs, || {
+        for n in 0..16 {
+            unsafe { tj_set_harmonic(port.voltage_harmonics.as_mut_ptr(), black_box(n), black_box(value)) };
+            black_box(&mut port);
+        }
+    });
+    table.each("set_voltage_harmonic, the port by value", 16, &mut theirs, || {
+        for n in 0..16 {
+            port = unsafe { tj_set_voltage_harmonic(port, black_box(n), black_box(value)) };
+            black_box(&mut port);
+        }
+    });
+    let mut theirs = || {
+        for n in 0..16 {
+            black_box(black_box(&signal).voltage_harmonic(black_box(n)));
+        }
+    };
+    table.each("voltage_harmonic, in place", 16, &mut theirs, || {
+        for n in 0..16 {
+            black_box(unsafe { tj_harmonic(black_box(&port).voltage_harmonics.as_ptr(), black_box(n)) });
+        }
+    });
+    table.each("voltage_harmonic, the port by value", 16, &mut theirs, || {
+        for n in 0..16 {
+            black_box(unsafe { tj_voltage_harmonic(*black_box(&port), black_box(n)) });
+        }
+    });
     table.each(
-        "set_voltage_harmonic",
-        16,
+        "instantaneous_power, the port by value",
+        1,
         || {
-            for n in 0..16 {
-                signal.set_voltage_harmonic(black_box(n), black_box(Some(2.5)));
-                black_box(&mut signal);
-            }
+            black_box(black_box(&signal).instantaneous_power());
         },
         || {
-            for n in 0..16 {
-                port = unsafe { tj_set_voltage_harmonic(port, black_box(n), black_box(value)) };
-                black_box(&mut port);
-            }
+            black_box(unsafe { tj_instantaneous_power(*black_box(&port)) });
         },
     );
     table.each(
-        "voltage_harmonic",
-        16,
+        "reset_power_params, the port by value",
+        1,
         || {
-            for n in 0..16 {
-                black_box(black_box(&signal).voltage_harmonic(black_box(n)));
-            }
+            black_box(&mut signal).reset_power_params();
+            black_box(&mut signal);
         },
         || {
-            for n in 0..16 {
-                black_box(unsafe { tj_voltage_harmonic(*black_box(&port), black_box(n)) });
-            }
+            port = unsafe { tj_reset_power_params(*black_box(&port)) };
+            black_box(&mut port);
         },
     );
 }

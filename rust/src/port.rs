@@ -71,21 +71,21 @@ impl Port {
 
     /// The voltage harmonic at place `n`; absent from 16 on.
     pub fn voltage_harmonic(&self, n: u8) -> Option<f32> {
-        unsafe { raw::tj_voltage_harmonic(*self, n) }.into()
+        unsafe { raw::tj_harmonic(self.voltage_harmonics.as_ptr(), n) }.into()
     }
 
     /// The current harmonic at place `n`; absent from 16 on.
     pub fn current_harmonic(&self, n: u8) -> Option<f32> {
-        unsafe { raw::tj_current_harmonic(*self, n) }.into()
+        unsafe { raw::tj_harmonic(self.current_harmonics.as_ptr(), n) }.into()
     }
 
     /// Sets the voltage harmonic at place `n`; from 16 on nothing changes.
     pub fn set_voltage_harmonic(&mut self, n: u8, value: Option<f32>) {
-        *self = unsafe { raw::tj_set_voltage_harmonic(*self, n, value.into()) };
+        unsafe { raw::tj_set_harmonic(self.voltage_harmonics.as_mut_ptr(), n, value.into()) };
     }
 
     /// Sets the current harmonic at place `n`; from 16 on nothing changes.
     pub fn set_current_harmonic(&mut self, n: u8, value: Option<f32>) {
-        *self = unsafe { raw::tj_set_current_harmonic(*self, n, value.into()) };
+        unsafe { raw::tj_set_harmonic(self.current_harmonics.as_mut_ptr(), n, value.into()) };
     }
 }

@@ -1,4 +1,4 @@
-//! include/tilljingle.h, declaration by declaration.
+//! include/tilljingle.h, declaration by declaration, but for the harmonics' calls that pass a port.
 
 use crate::{Port, Power, Reading, Settings, TimeFigures};
 
@@ -107,10 +107,8 @@ extern "C" {
 
     pub fn tj_instantaneous_power(port: Port) -> f32;
     pub fn tj_reset_power_params(port: Port) -> Port;
-    pub fn tj_voltage_harmonic(port: Port, n: u8) -> Reading;
-    pub fn tj_current_harmonic(port: Port, n: u8) -> Reading;
-    pub fn tj_set_voltage_harmonic(port: Port, n: u8, value: Reading) -> Port;
-    pub fn tj_set_current_harmonic(port: Port, n: u8, value: Reading) -> Port;
+    pub fn tj_harmonic(harmonics: *const Reading, n: u8) -> Reading;
+    pub fn tj_set_harmonic(harmonics: *mut Reading, n: u8, value: Reading);
 
     pub fn tj_signal_new(wave: u8, amplitude: f32, frequency: f32, samples: *mut f32, n: usize) -> SignalAnswer;
     pub fn tj_signal_new_power_port(

@@ -81,6 +81,9 @@ fn port_readings() {
     signal.port_mut().set_voltage_harmonic(16, Some(9.0));
     assert_eq!(signal.port().voltage_harmonic(3), Some(1.5));
     assert_eq!(signal.port().voltage_harmonic(16), None);
+    assert_eq!(signal.port().current_harmonic(3), None);
+    signal.port_mut().set_voltage_harmonic(3, None);
+    assert_eq!(signal.port().voltage_harmonic(3), None);
 }
 
 #[test]

@@ -7,3 +7,4 @@ pub mod SignalCrossing
 pub mod FiguresCrossing
 pub mod QualityCrossing
 pub mod CaptureCrossing
+pub mod InPlace

@@ -3,6 +3,7 @@ pub mod capture_c;
 pub mod figure_c;
 pub mod figures_c;
 pub mod generator_c;
+pub mod harmonics_c;
 pub mod number_c;
 pub mod port_c;
 pub mod power_c;
