@@ -1,4 +1,4 @@
--- `printing::print_report` meets its contract: 80 bytes hold any report, so all of it was written. Assumes nothing.
+-- `printing::print_report` meets its contract: 80 bytes hold any report, so all of it is handed on. Assumes nothing.
 use mathlib.Core.Path.{_≡_}
 use Prim.Native.Nat.{_≤_}
 use lib.ListN.{length}
@@ -7,7 +7,7 @@ use Rattle.reporting.specs.Report.{reportOf}
 use native.Mathlib.Omega.{arith}
 use native.Mathlib.Nat.{le-refl}
 use Rattle.reporting.proofs.Stored.{part-long}
-use Rattle.reporting.proofs.Whole.{report-short, all-written}
+use Rattle.reporting.proofs.Whole.{report-short, all-written, written-back}
 use borrow.Author.Needs.{needs}
 use Rattle.printing.proofs.print_report.Statement.{statement}
 use Rattle.printing.proofs.print_report.Tie as tie
@@ -27,23 +27,14 @@ whole c =
 array-share-prefix-text : tie.Need-array-share-prefix-text
 array-share-prefix-text c = omega (arith, whole (c .before) .1, c .before .report-text .kept .1 .0)
 
-slice-aggregate-write-all : tie.Need-slice-aggregate-write-all
-slice-aggregate-write-all c = part-long _ _ (omega (arith, whole (c .before .before) .1, c .before .before .report-text .kept .1 .0))
+slice-aggregate-hand-on : tie.Need-slice-aggregate-hand-on
+slice-aggregate-hand-on c = part-long _ _ (omega (arith, whole (c .before .before) .1, c .before .before .report-text .kept .1 .0))
 
-write-all-requires : tie.Need-write-all-requires
-write-all-requires c κs = search needs
-
-slice-aggregate-fail : tie.Need-slice-aggregate-fail
-slice-aggregate-fail c = search needs
-
-fail-requires : tie.Need-fail-requires
-fail-requires c κs = search needs
+hand-on-requires : tie.Need-hand-on-requires
+hand-on-requires c κs = let w = c .before .before .report-text in written-back _ _ (w .result) _ (w .ensures) (le-refl 80)
 
 returns : tie.Need-returns
-returns c = whole (c .before .before .before .before .before .before) .0
-
-returns-2 : tie.Need-returns-2
-returns-2 c = whole (c .before .before .before .before) .0
+returns c = search needs
 
 pub print-report-spec : {M : Type 1} → statement M
 print-report-spec =
@@ -52,9 +43,6 @@ print-report-spec =
     slice-aggregate-report-text
     report-text-requires
     array-share-prefix-text
-    slice-aggregate-write-all
-    write-all-requires
-    slice-aggregate-fail
-    fail-requires
-    returns
-    returns-2)
+    slice-aggregate-hand-on
+    hand-on-requires
+    returns)
