@@ -12,9 +12,9 @@ use Rattle.answers.specs.Numbers.{longest}
 use Rattle.answers.specs.declared.Outcome.the-variants.{Done}
 use Rattle.laws.specs.Front.{onto}
 use Rattle.hex.specs.Digit.{isDigit}
-use Rattle.frame.specs.Line.{after, allDigits, lineOf, lineCodes}
+use Rattle.frame.specs.Line.{at-volts, at-amps, after, allDigits, lineOf, lineCodes}
 use Rattle.frame.specs.declared.Line.the-variants.{Frame}
-use Rattle.capture.specs.Lines.{Lines, line, add, cut, codesOf, at-volts, at-amps}
+use Rattle.capture.specs.Lines.{Lines, line, add, cut, codesOf}
 use Rattle.capture.specs.Reading.{follows, weigh, judge, verdictOf, left, readCapture}
 use Rattle.capture.specs.declared.Verdict.the-variants.{Good}
 use Rattle.capture.proofs.Cut.{feed-no-digit}
