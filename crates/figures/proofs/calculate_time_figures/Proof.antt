@@ -24,7 +24,7 @@ done-requires-2 c κs = search needs
 
 returns-3 : tie.Need-returns-3
 unfolding answerOf
-returns-3 c = simp (le-ltb _ _ (c .before .before .before .if1 .left), ne-eqb _ _ (c .before .before .if2 .left)) (cc)
+returns-3 c = simp (le-ltb _ _ (c .before .before .before .if1 .left), ne-eqb _ _ (c .before .before .if2 .left)) (rw (c .done2 .ensures, c .before .measure .ensures))
 
 pub calculate-time-figures-spec : {M : Type 1} → statement M
 calculate-time-figures-spec =

@@ -22,7 +22,7 @@ sqrt64-narrowed-requires c κs = search needs
 
 returns-2 : tie.Need-returns-2
 unfolding thdOf
-returns-2 c = rw (c .before .before .if1 .left) (cc)
+returns-2 c = rw (c .before .before .if1 .left, c .sqrt64-narrowed .ensures, c .before .power .ensures)
 
 pub distortion-spec : {M : Type 1} → statement M
 distortion-spec =

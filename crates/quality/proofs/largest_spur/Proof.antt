@@ -49,7 +49,7 @@ unfolding spurOf
 returns c =
     let l = c .before .loop in
     let e : l .i - 1 ≡ length (now (c .before .before .before .args .spectrum)) - 1 = omega arith in
-    cc
+    rw (l .inv .2, e)
 
 pub largest-spur-spec : {M : Type 1} → statement M
 largest-spur-spec =

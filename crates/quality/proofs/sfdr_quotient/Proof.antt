@@ -31,7 +31,7 @@ returns-2 c = rw (← c .before .before .judge .ensures, c .enum-told2 .given .1
 
 returns-3 : tie.Need-returns-3
 unfolding answerSfdr
-returns-3 c = rw (← c .before .before .before .judge .ensures, c .before .enum-told3 .given .1) (cc)
+returns-3 c = rw (← c .before .before .before .judge .ensures, c .before .enum-told3 .given .1, c .over-spur .ensures)
 
 pub sfdr-quotient-spec : {M : Type 1} → statement M
 sfdr-quotient-spec =

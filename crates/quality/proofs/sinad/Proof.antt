@@ -21,7 +21,7 @@ over-noise-requires c κs = search needs
 
 returns : tie.Need-returns
 unfolding sinadOf
-returns c = cc
+returns c = rw (c .over-noise .ensures, c .before .power .ensures, c .before .before .square .ensures)
 
 pub sinad-spec : {M : Type 1} → statement M
 sinad-spec =

@@ -24,7 +24,7 @@ over-noise-requires c κs = search needs
 
 returns : tie.Need-returns
 unfolding snrOf
-returns c = cc
+returns c = rw (c .over-noise .ensures, c .before .power2 .ensures, c .before .before .power .ensures, c .before .before .before .square .ensures)
 
 pub snr-spec : {M : Type 1} → statement M
 snr-spec =

@@ -9,7 +9,7 @@ f32-to-f64-with-nan-requires c κs = search needs
 
 returns : tie.Need-returns
 unfolding squareOf
-returns c = cc
+returns c = rw (c .f32-to-f64-with-nan .ensures)
 
 pub square-spec : {M : Type 1} → statement M
 square-spec = tie.close (tie.spec f32-to-f64-with-nan-requires returns)

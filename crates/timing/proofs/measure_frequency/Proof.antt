@@ -20,7 +20,7 @@ frequency-requires c κs = search needs
 
 returns-2 : tie.Need-returns-2
 unfolding frequencyAnswer
-returns-2 c = simp (le-ltb _ _ (c .before .before .before .if1 .left)) (cc)
+returns-2 c = simp (le-ltb _ _ (c .before .before .before .if1 .left)) (rw (c .frequency .ensures, c .before .mean .ensures, c .before .before .total .ensures))
 
 pub measure-frequency-spec : {M : Type 1} → statement M
 measure-frequency-spec =

@@ -14,7 +14,7 @@ slew-requires c κs = search needs
 
 returns-2 : tie.Need-returns-2
 unfolding slewAnswer
-returns-2 c = simp (le-ltb _ _ (c .before .if1 .left)) (cc)
+returns-2 c = simp (le-ltb _ _ (c .before .if1 .left)) (rw (c .slew .ensures))
 
 pub slew-rate-spec : {M : Type 1} → statement M
 slew-rate-spec = tie.close (tie.spec returns slew-requires returns-2)

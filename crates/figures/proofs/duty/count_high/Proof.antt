@@ -52,8 +52,9 @@ loop-again c =
 returns : tie.Need-returns Inv-loop μ-loop
 unfolding highsOf
 returns c =
-    let e : c .before .loop .k ≡ length (now (c .before .before .before .args .samples)) = omega arith in
-    cc
+    let l = c .before .loop in
+    let e : l .k ≡ length (now (c .before .before .before .args .samples)) = omega arith in
+    rw (l .inv .1, e)
 
 pub count-high-spec : {M : Type 1} → statement M
 count-high-spec =

@@ -20,7 +20,7 @@ counted-requires-2 c κs = search needs
 
 returns : tie.Need-returns
 unfolding dutyOf
-returns c = cc
+returns c = rw (c .counted2 .ensures, c .before .counted .ensures, c .before .before .count-high .ensures)
 
 pub duty-of-spec : {M : Type 1} → statement M
 duty-of-spec = tie.close (tie.spec count-high-requires counted-requires counted-requires-2 returns)

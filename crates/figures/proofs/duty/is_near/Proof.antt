@@ -9,7 +9,7 @@ abs32-requires c κs = search needs
 
 returns : tie.Need-returns
 unfolding near
-returns c = cc
+returns c = rw (c .abs32 .ensures)
 
 pub is-near-spec : {M : Type 1} → statement M
 is-near-spec = tie.close (tie.spec abs32-requires returns)

@@ -26,7 +26,7 @@ fall-counts-requires c κs =
 
 returns : tie.Need-returns
 unfolding edgeAt
-returns c = cc
+returns c = rw (c .fall-counts .ensures, c .before .fall-begins .ensures, c .before .before .rise-counts .ensures, c .before .before .before .rise-begins .ensures)
 
 pub edge-at-spec : {M : Type 1} → statement M
 edge-at-spec =

@@ -62,7 +62,7 @@ unfolding edgesOf
 returns c =
     let l = c .before .loop in
     let e : l .i - 1 ≡ length (now (c .before .before .before .args .samples)) - 1 = omega arith in
-    cc
+    rw (l .inv .2, e)
 
 pub find-edges-spec : {M : Type 1} → statement M
 find-edges-spec =

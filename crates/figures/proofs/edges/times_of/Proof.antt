@@ -25,7 +25,7 @@ counted-requires-2 c κs =
 
 returns : tie.Need-returns
 unfolding timesOf
-returns c = cc
+returns c = rw (c .counted2 .ensures, c .before .counted .ensures, c .before .before .sample-time .ensures, c .before .before .before .find-edges .ensures)
 
 pub times-of-spec : {M : Type 1} → statement M
 times-of-spec =

@@ -70,8 +70,9 @@ loop-again c = let e = c .next-extreme .ensures in (e .1, e .2, e .3)
 returns : tie.Need-returns Inv-loop μ-loop
 unfolding maxOf minOf
 returns c =
-    let e : c .before .loop .k ≡ length (now (c .before .before .before .args .samples)) = omega arith in
-    cc
+    let l = c .before .loop in
+    let e : l .k ≡ length (now (c .before .before .before .args .samples)) = omega arith in
+    rw (l .inv .1, l .inv .2, e)
 
 pub find-extremes-spec : {M : Type 1} → statement M
 find-extremes-spec =

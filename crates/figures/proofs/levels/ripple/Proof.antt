@@ -61,8 +61,9 @@ loop-again c =
 returns-2 : tie.Need-returns-2 Inv-loop μ-loop
 unfolding sumOf
 returns-2 c =
-    let e : c .before .loop .k ≡ length (now (c .before .before .args .samples)) = omega arith in
-    cc
+    let l = c .before .loop in
+    let e : l .k ≡ length (now (c .before .before .args .samples)) = omega arith in
+    rw (l .inv .1, e)
 
 pub ripple-spec : {M : Type 1} → statement M
 ripple-spec =

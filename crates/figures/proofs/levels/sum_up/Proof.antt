@@ -73,8 +73,9 @@ loop-again c =
 returns-2 : tie.Need-returns-2 Inv-loop μ-loop
 unfolding totalOf sumOf
 returns-2 c =
-    let e : c .before .loop .k ≡ length (now (c .before .before .before .args .samples)) = omega arith in
-    cc
+    let l = c .before .loop in
+    let e : l .k ≡ length (now (c .before .before .before .args .samples)) = omega arith in
+    rw (l .inv .1, l .inv .2, l .inv .3, e)
 
 pub sum-up-spec : {M : Type 1} → statement M
 sum-up-spec =

@@ -18,7 +18,7 @@ ratio-requires c κs = search needs
 
 returns : tie.Need-returns
 unfolding crestOf
-returns c = cc
+returns c = rw (c .ratio .ensures, c .before .raised .ensures, c .before .before .abs322 .ensures, c .before .before .before .abs32 .ensures)
 
 pub crest-spec : {M : Type 1} → statement M
 crest-spec =

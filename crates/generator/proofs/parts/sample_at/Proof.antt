@@ -33,7 +33,7 @@ sawtooth-at-requires c κs = search needs
 
 returns : tie.Need-returns
 unfolding sampleAt
-returns c = cc
+returns c = rw (c .enum-told .given .1)
 
 returns-2 : tie.Need-returns-2
 unfolding sampleAt

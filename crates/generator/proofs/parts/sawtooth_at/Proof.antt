@@ -9,7 +9,7 @@ t-mod-requires c κs = search needs
 
 returns : tie.Need-returns
 unfolding period sawtoothAt
-returns c = cc
+returns c = rw (c .before .t-mod .ensures)
 
 pub sawtooth-at-spec : {M : Type 1} → statement M
 sawtooth-at-spec = tie.close (tie.spec t-mod-requires returns)

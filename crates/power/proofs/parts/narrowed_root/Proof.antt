@@ -9,7 +9,7 @@ sqrt64-narrowed-requires c κs = search needs
 
 returns : tie.Need-returns
 unfolding narrowedRoot
-returns c = cc
+returns c = rw (c .sqrt64-narrowed .ensures)
 
 pub narrowed-root-spec : {M : Type 1} → statement M
 narrowed-root-spec = tie.close (tie.spec sqrt64-narrowed-requires returns)

@@ -29,7 +29,7 @@ factor-requires c κs = search needs
 
 returns : tie.Need-returns
 unfolding recordOf activeOf apparentOf meanOf
-returns c = cc
+returns c = rw (c .factor .ensures, c .before .reactive .ensures, c .before .before .narrowed-root2 .ensures, c .before .before .before .before .narrowed-root .ensures, c .before .before .before .before .before .before .narrow .ensures)
 
 pub of-sums-spec : {M : Type 1} → statement M
 of-sums-spec =

@@ -18,7 +18,7 @@ narrowed-root-requires c κs = search needs
 
 returns : tie.Need-returns
 unfolding reactiveOf
-returns c = cc
+returns c = rw (c .narrowed-root .ensures, c .before .above-zero .ensures, c .before .before .f32-to-f64-with-nan2 .ensures, c .before .before .before .f32-to-f64-with-nan .ensures)
 
 pub reactive-spec : {M : Type 1} → statement M
 reactive-spec =

@@ -10,7 +10,7 @@ figure-of-requires : tie.Need-figure-of-requires
 figure-of-requires c κs = search needs
 
 returns : tie.Need-returns
-returns c = cc
+returns c = rw (c .figure-of .ensures, c .before .compute-thd-from-spectrum .ensures)
 
 pub tj-compute-thd-from-spectrum-spec : {M : Type 1} → statement M
 tj-compute-thd-from-spectrum-spec = tie.close (tie.spec compute-thd-from-spectrum-requires figure-of-requires returns)

@@ -10,7 +10,7 @@ sfdr-of-requires : tie.Need-sfdr-of-requires
 sfdr-of-requires c κs = search needs
 
 returns : tie.Need-returns
-returns c = cc
+returns c = rw (c .sfdr-of .ensures, c .before .sfdr-quotient .ensures)
 
 pub tj-sfdr-quotient-spec : {M : Type 1} → statement M
 tj-sfdr-quotient-spec = tie.close (tie.spec sfdr-quotient-requires sfdr-of-requires returns)

@@ -10,7 +10,7 @@ quotient-of-requires : tie.Need-quotient-of-requires
 quotient-of-requires c κs = search needs
 
 returns : tie.Need-returns
-returns c = cc
+returns c = rw (c .quotient-of .ensures, c .before .snr-quotient .ensures)
 
 pub tj-snr-quotient-spec : {M : Type 1} → statement M
 tj-snr-quotient-spec = tie.close (tie.spec snr-quotient-requires quotient-of-requires returns)

@@ -10,7 +10,7 @@ figure-of-requires : tie.Need-figure-of-requires
 figure-of-requires c κs = search needs
 
 returns : tie.Need-returns
-returns c = cc
+returns c = rw (c .figure-of .ensures, c .before .measure-frequency .ensures)
 
 pub tj-measure-frequency-spec : {M : Type 1} → statement M
 tj-measure-frequency-spec = tie.close (tie.spec measure-frequency-requires figure-of-requires returns)

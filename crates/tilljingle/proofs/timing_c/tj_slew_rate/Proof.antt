@@ -10,7 +10,7 @@ figure-of-requires : tie.Need-figure-of-requires
 figure-of-requires c κs = search needs
 
 returns : tie.Need-returns
-returns c = cc
+returns c = rw (c .figure-of .ensures, c .before .slew-rate .ensures)
 
 pub tj-slew-rate-spec : {M : Type 1} → statement M
 tj-slew-rate-spec = tie.close (tie.spec slew-rate-requires figure-of-requires returns)

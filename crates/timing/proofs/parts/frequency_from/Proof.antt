@@ -19,7 +19,7 @@ counted-requires-2 c κs = search needs
 
 returns : tie.Need-returns
 unfolding frequencyFrom
-returns c = simp (le-ltb _ _ (c .before .before .before .before .pre .0)) (cc)
+returns c = simp (le-ltb _ _ (c .before .before .before .before .pre .0)) (rw (c .counted2 .ensures, c .before .before .counted .ensures))
 
 pub frequency-from-spec : {M : Type 1} → statement M
 frequency-from-spec =

@@ -17,7 +17,7 @@ narrow-requires c κs = search needs
 
 returns : tie.Need-returns
 unfolding meanOf
-returns c = cc
+returns c = rw (c .narrow .ensures)
 
 pub mean-spec : {M : Type 1} → statement M
 mean-spec = tie.close (tie.spec int-to-float-narrow narrow-requires returns)

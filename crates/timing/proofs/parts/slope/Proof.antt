@@ -7,7 +7,7 @@ abs32-requires : tie.Need-abs32-requires
 abs32-requires c κs = search needs
 
 returns : tie.Need-returns
-returns c = cc
+returns c = rw (c .abs32 .ensures)
 
 pub slope-spec : {M : Type 1} → statement M
 slope-spec = tie.close (tie.spec abs32-requires returns)

@@ -67,7 +67,7 @@ unfolding steepestOf
 returns c =
     let l = c .before .loop in
     let e : l .i - 1 ≡ length (now (c .before .before .before .args .samples)) - 1 = omega arith in
-    cc
+    rw (l .inv .2, e)
 
 pub steepest-spec : {M : Type 1} → statement M
 steepest-spec =

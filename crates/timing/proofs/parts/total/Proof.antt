@@ -47,8 +47,9 @@ loop-again c =
 returns : tie.Need-returns Inv-loop μ-loop
 unfolding totalOf
 returns c =
-    let e : c .before .loop .k ≡ length (now (c .before .before .before .args .samples)) = omega arith in
-    cc
+    let l = c .before .loop in
+    let e : l .k ≡ length (now (c .before .before .before .args .samples)) = omega arith in
+    rw (l .inv .1, e)
 
 pub total-spec : {M : Type 1} → statement M
 total-spec =
