@@ -9,12 +9,12 @@ use lib.Dec.{lit≤, lit<}
 use lib.IntN.{negsuc}
 use lib.Ieee.{Float, nan, inf, fin, binary32, up, down, unlike, div, lt, ofBits}
 use lib.Ieee.Positive.{num, den, den-pos}
+use Rattle.laws.specs.Literals.{tiny32}
 use Rattle.laws.proofs.Ratio.{after, times, squared, flipped, weaken, respell, renamed}
 use Rattle.laws.proofs.Size.{size-pos, size-over, size-near, Signed, SizeOf, div-close}
 use Rattle.accuracy.proofs.Figures.{Found, FoundSquare, p-l, p-h, p-k}
 
--- the f32 nearest to 1e-12
-pub tiny-is : ofBits binary32 0x2B8CBCCC ≡ fin false 2305843 (negsuc 60)
+pub tiny-is : tiny32 ≡ fin false 2305843 (negsuc 60)
 unfolding ofBits
 tiny-is = refl
 
@@ -29,7 +29,7 @@ above-number (fin true n d) B h z = absurd (true≢false (h .0))
 above-number (fin false n d) B h z =
     lt-ltb (2305843 * down d) (n * up d * 2 ^ 61) (small (n * up d) (down d) (size-pos (n * up d) (down d) (2 ^ 23) B z) (z .least))
 
-pub above-tiny : (s : Float) (B : ℕ) → Signed s false → SizeOf s (2 ^ 23) B → lt (ofBits binary32 0x2B8CBCCC) s ≡ true
+pub above-tiny : (s : Float) (B : ℕ) → Signed s false → SizeOf s (2 ^ 23) B → lt tiny32 s ≡ true
 above-tiny s B h z = ap (λ (x : Float). lt x s) tiny-is ∙ above-number s B h z
 
 -- ---- the square of active power
