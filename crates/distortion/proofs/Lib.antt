@@ -3,3 +3,4 @@ mod Saturating
 pub mod Orders
 mod Whole
 pub mod NotNumbers
+pub mod Infinite

@@ -1,2 +1,3 @@
--- What the contracts cite. Assumes nothing.
+-- What the contracts cite, and examples of it. Assumes nothing.
 pub mod Thd
+pub mod Shown

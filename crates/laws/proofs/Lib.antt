@@ -14,3 +14,4 @@ pub mod Tested
 pub mod Stores
 pub mod Harmonics
 pub mod NotNumber
+pub mod NotFinite

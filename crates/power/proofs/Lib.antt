@@ -2,4 +2,6 @@
 pub mod NotNumbers
 pub mod BlockSums
 pub mod Refusals
+pub mod Infinite
+pub mod OneInfinity
 pub mod Incident

@@ -1,16 +1,17 @@
 -- What `compute_power` answers (01, item 4), operation by operation. Each operation on f32 (binary32) or f64 (binary64) is IEEE 754's: the exact result,
 -- rounded once to the nearest, ties to even (`lib.Ieee`). An f32 is an f64 as it stands. Definitions only.
 use Prim.Native.Nat.{ℕ, zero, suc}
-use mathlib.Core.Bool.{cond}
+use mathlib.Core.Bool.{not, cond}
 use mathlib.Core.List.{List}
 use lib.Dec.{eqb}
 use lib.ListN.{length, getD}
 use lib.IntN.{pos}
 use lib.Ieee.{Float, nan, binary32, binary64, add, sub, mul, div, lt, ofInt, ofBits}
+use Rattle.laws.specs.Literals.{tiny32}
 use Rattle.number.specs.Number.{narrow, root}
 use Rattle.answers.specs.declared.Outcome.{Outcome}
 use Rattle.answers.specs.declared.Outcome.the-variants.{Done, LengthsDiffer, TooLong}
-use Rattle.answers.specs.Numbers.{tooLong}
+use Rattle.answers.specs.Numbers.{numberOf, tooLong, refuse}
 use Rattle.power.specs.declared.Power.{Power}
 use Rattle.power.specs.declared.PowerAnswer.{PowerAnswer}
 use Rattle.power.specs.declared.parts.Sums.{Sums}
@@ -46,9 +47,9 @@ apparentOf t = mul binary32 (narrowedRoot (meanOf (t .vv) (t .count))) (narrowed
 
 -- pf, the power factor: p / s in f32, and 0 where s is not above the f32 nearest to 1e-12, at a NaN too
 unfoldable pub factorOf : Float → Float → Float
-factorOf p s = cond (lt (ofBits binary32 0x2B8CBCCC) s) (div binary32 p s) (ofBits binary32 0)
+factorOf p s = cond (lt tiny32 s) (div binary32 p s) (ofBits binary32 0)
 
--- x where it is above 0, and 0 elsewhere, at a NaN too
+-- the Rust's `if x > 0.0 { x } else { 0.0 }`: 0 at a NaN too
 unfoldable pub aboveZero : Float → Float
 aboveZero x = cond (lt (ofBits binary64 0) x) x (ofBits binary64 0)
 
@@ -56,6 +57,7 @@ aboveZero x = cond (lt (ofBits binary64 0) x) x (ofBits binary64 0)
 unfoldable pub reactiveOf : Float → Float → Float
 reactiveOf p s = narrowedRoot (aboveZero (sub binary64 (mul binary64 s s) (mul binary64 p p)))
 
+-- q and pf from p and s
 abbrev pub recordWith : Float → Float → Power
 recordWith p s = record { p = p; q = reactiveOf p s; s = s; pf = factorOf p s }
 
@@ -64,7 +66,7 @@ recordOf t = recordWith (activeOf t) (apparentOf t)
 
 -- ---- the answer
 
--- 01, "What a refusal returns is zero throughout"
+-- every figure 0
 abbrev pub zeroPower : Power
 zeroPower = record { p = ofBits binary32 0; q = ofBits binary32 0; s = ofBits binary32 0; pf = ofBits binary32 0 }
 
@@ -79,9 +81,12 @@ answered o r = record { outcome = o; power = r }
 unfoldable pub powerOf : List Float → List Float → Power
 powerOf v i = cond (eqb (length v) 0) zeroPower (recordOf (sumsTo v i (length v)))
 
--- 01, the table of numbers, and "Where several hold: 3, 1": a slice too long, then lengths that differ
+-- how a call with n volts and m amps ends. 01, the table of numbers, and "Where several hold: 3, 1": a slice too long, then lengths that differ
+unfoldable pub outcomeOf : ℕ → ℕ → Outcome
+outcomeOf n m = refuse (tooLong n) TooLong (refuse (tooLong m) TooLong (refuse (not (eqb n m)) LengthsDiffer Done))
+
+-- 01, "What a refusal returns is zero throughout"
 unfoldable pub answerOf : List Float → List Float → PowerAnswer
 answerOf v i =
-    cond (tooLong (length v)) (answered TooLong zeroPower)
-    (cond (tooLong (length i)) (answered TooLong zeroPower)
-    (cond (eqb (length v) (length i)) (answered Done (powerOf v i)) (answered LengthsDiffer zeroPower)))
+    let o = outcomeOf (length v) (length i) in
+    answered o (cond (eqb (numberOf o) 0) (powerOf v i) zeroPower)

@@ -4,8 +4,7 @@ ghost use mathlib.Core.Path.{_≡_};
 ghost use Prim.Native.Nat.{_≤_};
 ghost use lib.ListN.{length};
 ghost use Rattle.answers.specs.Numbers.{longest};
-ghost use Rattle.power.specs.Power.{sumsTo, nanPower, recordOf, answerOf};
-use answers::LONGEST;
+ghost use Rattle.power.specs.Power.{nanPower, powerOf, answerOf};
 use answers::Outcome;
 
 mod blocks;
@@ -46,12 +45,15 @@ fn of_nan() -> Power
     }
 }
 
-// The record of a capture. One pass over each slice looks for a NaN, so that the loops over numbers widen them without a choice.
+// The record of a capture, ZERO where it is empty. One pass over each slice looks for a NaN, so that the loops over numbers widen them without a choice.
 fn of_capture(voltage: &[f32], current: &[f32]) -> Power
     requires { ⌜ length (now voltage) ≡ length (now current) ⌝ }
     requires { ⌜ length (now voltage) ≤ longest ⌝ }
-    ensures { λ r. ⌜ r ≡ recordOf (sumsTo (now (voltage .entry)) (now (current .entry)) (length (now (voltage .entry)))) ⌝ }
+    ensures { λ r. ⌜ r ≡ powerOf (now (voltage .entry)) (now (current .entry)) ⌝ }
 {
+    if voltage.len() == 0 {
+        return ZERO;
+    }
     if !number::parts::all_numbers(voltage) {
         return of_nan();
     }
@@ -65,34 +67,15 @@ fn of_capture(voltage: &[f32], current: &[f32]) -> Power
 pub fn compute_power(voltage: &[f32], current: &[f32], sample_rate: f32) -> PowerAnswer
     ensures { λ r. ⌜ r ≡ answerOf (now (voltage .entry)) (now (current .entry)) ⌝ }
 {
-    let n = voltage.len();
-    let m = current.len();
-    if n > LONGEST {
+    let outcome = parts::judged(voltage.len(), current.len());
+    if answers::number_of(outcome) != 0 {
         return PowerAnswer {
-            outcome: Outcome::TooLong,
-            power: ZERO,
-        };
-    }
-    if m > LONGEST {
-        return PowerAnswer {
-            outcome: Outcome::TooLong,
-            power: ZERO,
-        };
-    }
-    if n != m {
-        return PowerAnswer {
-            outcome: Outcome::LengthsDiffer,
-            power: ZERO,
-        };
-    }
-    if n == 0 {
-        return PowerAnswer {
-            outcome: Outcome::Done,
+            outcome,
             power: ZERO,
         };
     }
     PowerAnswer {
-        outcome: Outcome::Done,
+        outcome,
         power: of_capture(voltage, current),
     }
 }

@@ -1,9 +1,27 @@
-// The record of a capture from its sums.
+// How a call that reads two slices ends, and the record of a capture from its sums.
 ghost use mathlib.Core.Path.{_≡_};
 ghost use Prim.Native.Nat.{_≤_};
-ghost use Rattle.power.specs.Power.{narrowedRoot, factorOf, aboveZero, reactiveOf, recordOf};
+ghost use Rattle.power.specs.Power.{narrowedRoot, factorOf, aboveZero, reactiveOf, recordOf, outcomeOf};
 ghost use Rattle.answers.specs.Numbers.{longest};
 use crate::Power;
+use answers::LONGEST;
+use answers::Outcome;
+
+// The refusals in their order, of so many volts and amps: with 3 where a slice is longer than LONGEST, and then with 1 where the lengths differ.
+pub fn judged(volts: usize, amps: usize) -> Outcome
+    ensures { λ r. ⌜ r ≡ outcomeOf volts amps ⌝ }
+{
+    if volts > LONGEST {
+        return Outcome::TooLong;
+    }
+    if amps > LONGEST {
+        return Outcome::TooLong;
+    }
+    if volts != amps {
+        return Outcome::LengthsDiffer;
+    }
+    Outcome::Done
+}
 
 // The sums over `count` pairs: of the products, of the voltage's squares and of the current's.
 pub struct Sums {
