@@ -16,8 +16,8 @@ use denote.Exit.{unchanged}
 use denote.Plain.{uint-tells, uint-lawful, uint-makes, uint-copy}
 use denote.Builtin.{u8}
 use denote.Struct.Laws as LL
-use Rattle.tilljingle.proofs.port_c.TjReading as R
-use Rattle.tilljingle.proofs.port_c.TjReading.Laws as R′
+use Rattle.crossing.proofs.readings.TjReading as R
+use Rattle.crossing.proofs.readings.TjReading.Laws as R′
 
 pub record ByValue : Type 2 where
   pub τ : Ty

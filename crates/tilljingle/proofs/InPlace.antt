@@ -11,9 +11,9 @@ use Rattle.port.specs.Readings.{withPlace}
 use Rattle.port.specs.declared.Reading.{Reading}
 use Rattle.port.specs.declared.Reading.the-variants.{Number, Absent}
 use Rattle.port.specs.declared.Slot.{Slot}
-use Rattle.tilljingle.specs.declared.port_c.TjReading.{TjReading}
-use Rattle.tilljingle.specs.declared.port_c.TjPort.{TjPort}
-use Rattle.tilljingle.specs.PortCrossing.{readingIn, readingOut, slotIn, slotOut, portIn, portOut}
+use Rattle.crossing.specs.declared.readings.TjReading.{TjReading}
+use Rattle.crossing.specs.declared.ports.TjPort.{TjPort}
+use Rattle.crossing.specs.PortCrossing.{readingIn, readingOut, slotIn, slotOut, portIn, portOut}
 use Rattle.tilljingle.specs.InPlace.{withHarmonic}
 
 -- an element of a list that is mapped, inside the list

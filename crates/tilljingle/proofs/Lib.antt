@@ -1,6 +1,4 @@
--- Laws of what crosses the boundary. Assumes nothing.
-pub mod PortCrossing
-pub mod SignalCrossing
+-- Harmonics in place: laws, and the walks. Assumes nothing.
 pub mod InPlace
 pub mod ByValue
 pub mod ReadInPlace

@@ -1,10 +1,8 @@
 -- How an answer crosses the boundary: an outcome as its number, the rest as it is. Definitions only.
 use Prim.Native.Nat.{ℕ}
 use mathlib.Core.List.{List}
-use Rattle.answers.specs.declared.Measured.{Measured}
 use Rattle.answers.specs.Numbers.{numberOf}
 use Rattle.answers.specs.Written.{Written}
-use Rattle.tilljingle.specs.declared.figure_c.Figure.{Figure}
 
 -- of a call that only writes: its number, and the lent slice afterwards
 pub record Numbered (A : Type 0) : Type 0 where
@@ -16,7 +14,3 @@ numbered n l = record { code = n; places = l }
 
 abbrev pub crossed : {A : Type 0} → Written A → Numbered A
 crossed w = numbered (numberOf (w .outcome)) (w .places)
-
--- one measured number
-abbrev pub figureOf : Measured → Figure
-figureOf m = record { code = numberOf (m .outcome); value = m .value }

@@ -2,9 +2,6 @@
 pub mod Crossing
 pub mod PowerCrossing
 pub mod Scratch
-pub mod PortCrossing
-pub mod SignalCrossing
 pub mod FiguresCrossing
-pub mod QualityCrossing
 pub mod CaptureCrossing
 pub mod InPlace

@@ -1,8 +1,9 @@
 // Harmonics in place: the caller lends the 16 places of a port, and no port is passed. The same rule as `port_c`'s harmonics.
 ghost use mathlib.Core.Path.{_≡_};
 ghost use Rattle.tilljingle.specs.InPlace.{harmonicAt, withHarmonic};
-use crate::port_c;
-use crate::port_c::TjReading;
+use crossing::readings::TjReading;
+use crossing::readings::reading_in;
+use crossing::readings::reading_out;
 
 // The reading at a place; absent for a place of 16 or above.
 fn harmonic_at(harmonics: [TjReading; 16], n: u8) -> TjReading
@@ -15,7 +16,7 @@ fn harmonic_at(harmonics: [TjReading; 16], n: u8) -> TjReading
         };
     }
     let there = harmonics[n as usize];
-    port_c::reading_out(port_c::reading_in(there))
+    reading_out(reading_in(there))
 }
 
 // The readings with a value at a place; unchanged for a place of 16 or above.
@@ -23,7 +24,7 @@ fn with_harmonic(mut harmonics: [TjReading; 16], n: u8, value: TjReading) -> [Tj
     ensures { λ r. ⌜ r ≡ withHarmonic harmonics n value ⌝ }
 {
     if n < 16 {
-        let reading = port_c::reading_out(port_c::reading_in(value));
+        let reading = reading_out(reading_in(value));
         harmonics[n as usize] = reading;
     }
     harmonics

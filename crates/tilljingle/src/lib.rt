@@ -1,6 +1,5 @@
 // The C boundary: one thin export for each public call of the library, as include/tilljingle.h declares them. A file for each part.
 pub mod capture_c;
-pub mod figure_c;
 pub mod figures_c;
 pub mod generator_c;
 pub mod harmonics_c;

@@ -1,67 +1,13 @@
 // Distortion, effective bits, and the quotients behind SNR, SINAD and SFDR.
 ghost use mathlib.Core.Path.{_≡_};
 ghost use Rattle.quality.specs.Quality.{answerThd, enobOf, snrOf, sinadOf, answerQuotient, answerSfdr};
-ghost use Rattle.tilljingle.specs.Crossing.{figureOf};
-ghost use Rattle.tilljingle.specs.QualityCrossing.{codedQuotient, codedSfdr};
-use crate::figure_c::Figure;
-use crate::figure_c::figure_of;
-use quality::Quotient;
-use quality::QuotientAnswer;
-use quality::Sfdr;
-use quality::SfdrAnswer;
-
-// The number of the call's outcome, and the case of the quotient as its kind and ratio.
-#[repr(C)]
-pub struct CodedQuotient {
-    pub code: u8,
-    pub kind: u8,
-    pub ratio: f64,
-}
-
-fn quotient_of(a: QuotientAnswer) -> CodedQuotient
-    ensures { λ r. ⌜ r ≡ codedQuotient a ⌝ }
-{
-    let o = a.outcome;
-    let code = answers::number_of(o);
-    let q = a.quotient;
-    match q {
-        Quotient::Ratio(ratio) => CodedQuotient {
-            code,
-            kind: 0,
-            ratio,
-        },
-        Quotient::UnusableBin => CodedQuotient {
-            code,
-            kind: 2,
-            ratio: 0.0,
-        },
-    }
-}
-
-fn sfdr_of(a: SfdrAnswer) -> CodedQuotient
-    ensures { λ r. ⌜ r ≡ codedSfdr a ⌝ }
-{
-    let o = a.outcome;
-    let code = answers::number_of(o);
-    let q = a.quotient;
-    match q {
-        Sfdr::Ratio(x) => CodedQuotient {
-            code,
-            kind: 0,
-            ratio: std::num::f32_to_f64_with_nan(x),
-        },
-        Sfdr::NoSpur => CodedQuotient {
-            code,
-            kind: 1,
-            ratio: 0.0,
-        },
-        Sfdr::UnusableBin => CodedQuotient {
-            code,
-            kind: 2,
-            ratio: 0.0,
-        },
-    }
-}
+ghost use Rattle.crossing.specs.Measured.{figureOf};
+ghost use Rattle.crossing.specs.QualityCrossing.{codedQuotient, codedSfdr};
+use crossing::measured::Figure;
+use crossing::measured::figure_of;
+use crossing::quotients::CodedQuotient;
+use crossing::quotients::quotient_of;
+use crossing::quotients::sfdr_of;
 
 #[no_mangle]
 pub extern "C" fn tj_compute_thd_from_spectrum(spectrum: &[f32], fundamental_bin: usize) -> Figure

@@ -2,92 +2,14 @@
 ghost use mathlib.Core.Path.{_≡_};
 ghost use Rattle.generator.specs.Wave.{waveOf};
 ghost use Rattle.signal.specs.Calls.{highest, newOf, portOf, phaseSet, dutySet, resetOf};
-ghost use Rattle.tilljingle.specs.PortCrossing.{readingIn};
-ghost use Rattle.tilljingle.specs.SignalCrossing.{stateIn, stateOut, codedSignal, sent, crossedSignal};
-use crate::port_c;
-use crate::port_c::TjPort;
-use crate::port_c::TjReading;
-use figures::TimeFigures;
-use generator::Shape;
-use signal::Answer;
-use signal::State;
-
-#[repr(C)]
-pub struct TjSignal {
-    pub wave: u8,
-    pub amplitude: f32,
-    pub phase: f32,
-    pub frequency: f32,
-    pub duty_cycle: f32,
-    pub port: TjPort,
-    pub figures: TimeFigures,
-    pub thd: f32,
-}
-
-// The number of the call's outcome, and the state.
-#[repr(C)]
-pub struct CodedSignal {
-    pub code: u8,
-    pub signal: TjSignal,
-}
-
-// The state that a flat record stands for.
-fn state_in(s: TjSignal) -> State
-    ensures { λ r. ⌜ r ≡ stateIn s ⌝ }
-{
-    let wave = generator::wave_of(s.wave);
-    let flat = s.port;
-    let port = port_c::port_in(flat);
-    let shape = Shape {
-        wave: wave,
-        amplitude: s.amplitude,
-        phase: s.phase,
-        frequency: s.frequency,
-        duty_cycle: s.duty_cycle,
-    };
-    let figures = s.figures;
-    State {
-        shape: shape,
-        port: port,
-        figures: figures,
-        thd: s.thd,
-    }
-}
-
-// A state as a flat record.
-fn state_out(s: State) -> TjSignal
-    ensures { λ r. ⌜ r ≡ stateOut s ⌝ }
-{
-    let shape = s.shape;
-    let wave = shape.wave;
-    let number = generator::wave_number(wave);
-    let port = s.port;
-    let flat = port_c::port_out(port);
-    let figures = s.figures;
-    TjSignal {
-        wave: number,
-        amplitude: shape.amplitude,
-        phase: shape.phase,
-        frequency: shape.frequency,
-        duty_cycle: shape.duty_cycle,
-        port: flat,
-        figures: figures,
-        thd: s.thd,
-    }
-}
-
-fn coded(a: Answer) -> CodedSignal
-    ensures { λ r. ⌜ r ≡ codedSignal a ⌝ }
-{
-    let outcome = a.outcome;
-    let code = answers::number_of(outcome);
-    let state = a.state;
-    let flat = state_out(state);
-    CodedSignal {
-        code: code,
-        signal: flat,
-    }
-}
+ghost use Rattle.crossing.specs.PortCrossing.{readingIn};
+ghost use Rattle.crossing.specs.SignalCrossing.{stateIn, sent, crossedSignal};
+use crossing::readings;
+use crossing::readings::TjReading;
+use crossing::signals::CodedSignal;
+use crossing::signals::TjSignal;
+use crossing::signals::coded;
+use crossing::signals::state_in;
 
 #[no_mangle]
 pub extern "C" fn tj_signal_new(
@@ -111,7 +33,7 @@ pub extern "C" fn tj_signal_new_power_port(
 ) -> CodedSignal
     ensures { λ r. ⌜ sent r (now (samples .exit)) ≡ crossedSignal (portOf highest voltage current (readingIn frequency) (now (samples .entry))) ⌝ }
 {
-    let reading = port_c::reading_in(frequency);
+    let reading = readings::reading_in(frequency);
     coded(signal::new_power_port(voltage, current, reading, samples))
 }
 

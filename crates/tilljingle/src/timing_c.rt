@@ -1,9 +1,9 @@
 // Frequency and slew rate.
 ghost use mathlib.Core.Path.{_≡_};
-ghost use Rattle.tilljingle.specs.Crossing.{figureOf};
+ghost use Rattle.crossing.specs.Measured.{figureOf};
 ghost use Rattle.timing.specs.Timing.{frequencyAnswer, slewAnswer};
-use crate::figure_c::Figure;
-use crate::figure_c::figure_of;
+use crossing::measured::Figure;
+use crossing::measured::figure_of;
 
 #[no_mangle]
 pub extern "C" fn tj_measure_frequency(samples: &[f32], sample_rate: f32) -> Figure

@@ -7,7 +7,7 @@ use lib.ListN.{length}
 use borrow.Author.Needs.{needs}
 use borrow.Author.Tests.{lt-ltb, le-ltb}
 use Rattle.port.specs.declared.Reading.the-variants.{Number}
-use Rattle.tilljingle.specs.PortCrossing.{slotIn}
+use Rattle.crossing.specs.PortCrossing.{slotIn}
 use Rattle.tilljingle.proofs.InPlace.{getD-mapped}
 use Rattle.tilljingle.proofs.harmonics_c.harmonic_at.Statement.{statement}
 use Rattle.tilljingle.proofs.harmonics_c.harmonic_at.Tie as tie

@@ -1,6 +1,6 @@
 -- `tilljingle::signal_c::tj_signal_set_phase` meets its contract: the call's own, crossed. Assumes nothing.
 use mathlib.Core.Path.{ap}
-use Rattle.tilljingle.specs.SignalCrossing.{crossedSignal}
+use Rattle.crossing.specs.SignalCrossing.{crossedSignal}
 use borrow.Author.Needs.{needs}
 use Rattle.tilljingle.proofs.signal_c.tj_signal_set_phase.Statement.{statement}
 use Rattle.tilljingle.proofs.signal_c.tj_signal_set_phase.Tie as tie

@@ -1,0 +1,3 @@
+-- Laws of what crosses the boundary. Assumes nothing.
+pub mod PortCrossing
+pub mod SignalCrossing

@@ -1,0 +1,47 @@
+-- How a signal crosses the boundary: its state as a flat record, a wave as its number, a port as PortCrossing has it. Definitions only.
+use mathlib.Core.List.{List}
+use lib.Ieee.{Float}
+use Rattle.answers.specs.Numbers.{numberOf}
+use Rattle.generator.specs.Sample.{shapeOf}
+use Rattle.generator.specs.Wave.{waveNumber, waveOf}
+use Rattle.signal.specs.declared.State.{State}
+use Rattle.signal.specs.declared.Answer.{Answer}
+use Rattle.signal.specs.Calls.{Left}
+use Rattle.crossing.specs.PortCrossing.{portIn, portOut}
+use Rattle.crossing.specs.declared.signals.TjSignal.{TjSignal}
+use Rattle.crossing.specs.declared.signals.CodedSignal.{CodedSignal}
+
+-- the state that a flat record stands for; a number of no wave is DC
+unfoldable pub stateIn : TjSignal → State
+stateIn s = record {
+  shape = shapeOf (waveOf (s .wave)) (s .amplitude) (s .phase) (s .frequency) (s .«duty_cycle»);
+  port = portIn (s .port);
+  figures = s .figures;
+  thd = s .thd;
+}
+
+unfoldable pub stateOut : State → TjSignal
+stateOut s = record {
+  wave = waveNumber (s .shape .wave);
+  amplitude = s .shape .amplitude;
+  phase = s .shape .phase;
+  frequency = s .shape .frequency;
+  «duty_cycle» = s .shape .«duty_cycle»;
+  port = portOut (s .port);
+  figures = s .figures;
+  thd = s .thd;
+}
+
+unfoldable pub codedSignal : Answer → CodedSignal
+codedSignal a = record { code = numberOf (a .outcome); signal = stateOut (a .state) }
+
+-- what a call answers, and the caller's samples afterwards
+pub record Sent : Type 0 where
+  pub answer : CodedSignal
+  pub places : List Float
+
+abbrev pub sent : CodedSignal → List Float → Sent
+sent a l = record { answer = a; places = l }
+
+abbrev pub crossedSignal : Left → Sent
+crossedSignal w = sent (codedSignal (w .answer)) (w .places)
