@@ -1,7 +1,8 @@
 #!/usr/bin/env python3
 """Says why each must-fail edit was refused, after `rt must-fail` or `rt ci`: its label and the first error of its log.
 An edit after which a need of the proof has no name any more only made the proof unfit for the code and shows nothing: such a
-one is marked WEAK, and the program ends with status 1.
+one is marked WEAK, and the program ends with status 1. An edit with a line '# refuses: F G ..' makes one wrong change in each of
+these functions, and is WEAK unless each of them was refused.
 usage: refusals.py [CRATE..]   in the repository's root"""
 import pathlib
 import re
@@ -11,12 +12,17 @@ WEAK = "that can be named from here"
 weak = 0
 for log in sorted(pathlib.Path("target/must-fail").glob("*/*/.log")):
     crate, label = log.parts[-3], log.parts[-2]
-    if sys.argv[1:] and crate not in sys.argv[1:]:
+    path = pathlib.Path("crates", crate, "must-fail", label + ".edit")
+    if (sys.argv[1:] and crate not in sys.argv[1:]) or not path.exists():
         continue
     text = log.read_text(encoding="utf-8", errors="replace")
     errors = re.findall(r"^\S*?/([^/\s]+/[^/\s]+):\d+:\d+: error: (.*)$", text, re.M)
-    mark = "WEAK" if WEAK in text else "ok"
+    named = re.findall(r"^# refuses: (.*)$", path.read_text(encoding="utf-8"), re.M)
+    # refused for itself, and not only because a function that it calls was
+    own = r"^fn \S*::{0}: (?:not proved$|no proof: .*does not close)|/{0}/Proof\.antt:\d+:\d+: error: (?!.*was not admitted)"
+    passed = [f for f in " ".join(named).split() if not re.search(own.format(f), text, re.M)]
+    mark = "WEAK" if WEAK in text or passed else "ok"
     weak += mark == "WEAK"
     where, why = errors[0] if errors else ("", "no error was found in the log")
-    print(f"{mark:4} {crate}/{label}: {where}: {why[:160]}")
+    print(f"{mark:4} {crate}/{label}: {where}: {why[:160]}" + (f" NOT REFUSED: {' '.join(passed)}" if passed else ""))
 sys.exit(1 if weak else 0)
