@@ -1,6 +1,8 @@
 -- The contracts of crate `held` as a caller cites them, each for any function of its shape.
 --     Making, making-of        a function that makes a signal of three arguments and the samples, and of what it ensures the clause alone
---     Setting                  one that is lent the signal with one argument, and leaves another in its place
+--     Setting, Resetting       one that is lent the signal, with one argument or none, and leaves another in its place
+--     Reading                  one that is lent the signal, and answers a part of it
+--     answer                   the type of an answer, as `ByValue.antt` has the others
 -- Assumes nothing.
 use mathlib.Core.Path.{_≡_}
 use mathlib.Core.List.{[], _∷_, List}
@@ -14,6 +16,7 @@ use contract.Monad.{fact}
 use denote.Builtin.{f32, SliceRefMutOf, RefMutOf}
 use denote.Builtin as Builtin
 use denote.Ref.{RefT, now}
+use denote.Struct.Laws as LL
 use denote.Triple.Spec.{tripleOf}
 use denote.Triple.Statement.{Contract}
 use denote.Triple.Clauses.{Ended, Clauses, closing, ensured, lasts}
@@ -22,10 +25,23 @@ use denote.Signature.{plain, namedLft}
 use Rattle.signal.specs.Calls.{Left}
 use Rattle.signal.specs.declared.Answer.{Answer}
 use Rattle.held.specs.declared.Signal.{Signal}
-use Rattle.held.specs.Held.{beside, after}
+use Rattle.held.specs.Held.{beside, after, seen}
 use Rattle.held.proofs.Signal as T
-use Rattle.held.proofs.ByValue.{ByValue, rowOf}
+use Rattle.signal.proofs.Answer as N
+use Rattle.signal.proofs.Answer.Laws as N′
+use Rattle.held.proofs.ByValue.{ByValue, ByValueLaws, rowOf}
 use Rattle.held.proofs.Lent.{SignalS}
+
+abbrev pub answer : ByValue
+answer = record { τ = N′.mir; like = N.the-row }
+
+abbrev pub answer-laws : ByValueLaws answer
+answer-laws = record {
+  val = LL.val N.the-type N′.the-laws;
+  tells = LL.tells N.the-type N′.the-laws;
+  lawful = λ 𝓤 H A W. LL.lawful N.the-type N′.the-laws 𝓤 H A W;
+  makes = λ 𝓤 H A W. LL.makes N.the-type N′.the-plain 𝓤 H A;
+}
 
 module _ (B₁ B₂ B₃ : ByValue) where
   abbrev pub makingEnded : Ended
@@ -58,3 +74,30 @@ module _ (B : ByValue) where
 
     abbrev pub Setting : Contract 𝓤
     Setting = tripleOf 𝓤 H A (settingEnded .signature) (closing 𝓤 H A settingEnded settingClauses)
+
+abbrev pub resettingEnded : Ended
+resettingEnded = record {
+  signature = record { lifetimes = 2; outlives = record { long = 1; long-ok = tt; short = 0; short-ok = tt } ∷ []; params = RefMutOf (0 ∷ []) tt SignalS (λ κs. tt) ∷ []; result = plain (λ κs. Builtin.unit) };
+  kept = (yes, tt);
+}
+
+module _ (gives : Answer → List Float → Left) {M : Type 1} (𝓤 : URA M) (H : Heap 𝓤) (A : Atoms 𝓤) where
+  abbrev pub resettingClauses : Clauses 𝓤 resettingEnded
+  resettingClauses κs a = record { ghost = Unit {0}; requires = λ g. emp 𝓤; ensures = λ g r end. fact 𝓤 (now (end .0) ≡ after (now (a .0)) (gives (now (a .0) .answer) (now (now (a .0) .samples)))) }
+
+  abbrev pub Resetting : Contract 𝓤
+  Resetting = tripleOf 𝓤 H A (resettingEnded .signature) (closing 𝓤 H A resettingEnded resettingClauses)
+
+module _ (B : ByValue) where
+  abbrev pub readingEnded : Ended
+  readingEnded = record {
+    signature = record { lifetimes = 2; outlives = record { long = 1; long-ok = tt; short = 0; short-ok = tt } ∷ []; params = RefMutOf (0 ∷ []) tt SignalS (λ κs. tt) ∷ []; result = plain (λ κs. rowOf B) };
+    kept = (yes, tt);
+  }
+
+  module _ (part : Answer → B .like .Denot) {M : Type 1} (𝓤 : URA M) (H : Heap 𝓤) (A : Atoms 𝓤) where
+    abbrev pub readingClauses : Clauses 𝓤 readingEnded
+    readingClauses κs a = record { ghost = Unit {0}; requires = λ g. emp 𝓤; ensures = λ g r end. fact 𝓤 (seen r (now (end .0)) ≡ seen (part (now (a .0) .answer)) (now (a .0))) }
+
+    abbrev pub Reading : Contract 𝓤
+    Reading = tripleOf 𝓤 H A (readingEnded .signature) (closing 𝓤 H A readingEnded readingClauses)

@@ -3,4 +3,9 @@ pub mod Lengths
 pub mod Lending
 pub mod Callees
 pub mod Setting
+pub mod Resetting
+pub mod Reading
 pub mod SetTwice
+pub mod Begun
+pub mod ThenReset
+pub mod ThenRead
