@@ -20,6 +20,7 @@ numberOf WrongSequence = 7
 abbrev pub longest : ℕ
 longest = 65536
 
+-- 01, row 3: whether n places are more than that
 abbrev pub tooLong : ℕ → Bool
 tooLong n = ltb longest n
 

@@ -2,6 +2,7 @@
 use mathlib.Core.List.{List}
 use Rattle.answers.specs.declared.Outcome.{Outcome}
 
+-- 01, "the contract determines the answer and all lent contents afterwards, refused calls too"
 pub record Written (A : Type 0) : Type 0 where
   pub outcome : Outcome
   pub places : List A

@@ -27,6 +27,7 @@ thdFrom fundamental power earlier = cond (lt tiny32 fundamental) (mul binary32 (
 unfoldable pub thdAt : ℕ → ℕ → Float → List Float → Float
 thdAt top bin earlier xs = thdFrom (magnitudeOf xs bin) (powerOf (magnitudeOf xs) bin 2 (lastUpTo top (length xs / 2) bin)) earlier
 
+-- 01, item 10, "the THD of step 10 of `calculate_metrics`": where the bin is unusable, "`Signal` keeps its earlier THD"
 unfoldable pub thdOf : ℕ → Float → Float → List Float → Float
 thdOf top frequency earlier xs =
     let bin = binOf frequency (length xs) in

@@ -61,6 +61,7 @@ reactiveOf p s = narrowedRoot (aboveZero (sub binary64 (mul binary64 s s) (mul b
 abbrev pub recordWith : Float → Float → Power
 recordWith p s = record { p = p; q = reactiveOf p s; s = s; pf = factorOf p s }
 
+-- 01, item 4: "p, q, s and pf as one record"
 unfoldable pub recordOf : Sums → Power
 recordOf t = recordWith (activeOf t) (apparentOf t)
 

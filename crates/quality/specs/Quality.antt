@@ -60,9 +60,11 @@ totalOf s = powerIn s 1 1
 unfoldable pub overNoise : Float → Float → Float
 overNoise own noise = div binary64 own (cond (lt zero64 noise) noise (ofBits binary64 0x39B4484BFEEBC2A0))
 
+-- 01, item 7, the quotient of `compute_snr`: noise is the total less the fundamental, and then less its harmonics from order 2 on
 unfoldable pub snrOf : List Float → ℕ → Float
 snrOf s b = overNoise (ownOf s b) (sub binary64 (sub binary64 (totalOf s) (ownOf s b)) (powerIn s b 2))
 
+-- 01, item 7, the quotient of `compute_sinad`: noise and distortion are the total less the fundamental
 unfoldable pub sinadOf : List Float → ℕ → Float
 sinadOf s b = overNoise (ownOf s b) (sub binary64 (totalOf s) (ownOf s b))
 
@@ -86,6 +88,7 @@ spurOf s b = pairs (spurAt b) zero32 s (length s - 1)
 unfoldable pub sfdrOf : List Float → ℕ → Sfdr
 sfdrOf s b = cond (lt tiny32 (spurOf s b)) (S.Ratio (div binary32 (getD s b nan) (spurOf s b))) S.NoSpur
 
+-- as `answerQuotient`, for the quotient of `compute_sfdr`
 unfoldable pub answerSfdr : List Float → ℕ → SfdrAnswer
 answerSfdr s b =
     given (judged (length s) b) (record { outcome = TooLong; quotient = S.Ratio zero32 }) (record { outcome = Done; quotient = S.UnusableBin })

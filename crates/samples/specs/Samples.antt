@@ -13,9 +13,11 @@ use Rattle.laws.specs.Filled.{filled}
 unfoldable pub each : (Float → Float) → List Float → Written Float
 each f s = cond (tooLong (length s)) (written TooLong s) (written Done (map f s))
 
+-- 01, item 2, `add_dc_offset`: each sample plus the offset, in f32
 abbrev pub offsetBy : Float → List Float → Written Float
 offsetBy offset = each (λ (x : Float). add binary32 x offset)
 
+-- 01, item 2, `scale`: each sample times the factor, in f32
 abbrev pub scaledBy : Float → List Float → Written Float
 scaledBy factor = each (λ (x : Float). mul binary32 x factor)
 

@@ -42,6 +42,7 @@ remade top earlier next xs = judged earlier xs (made top next xs)
 
 -- ---- the calls, each over the highest order of THD
 
+-- 01, item 10, `new`: a fresh signal of the wave, made; where refused, the zero state
 abbrev pub newOf : ℕ → Wave → Float → Float → List Float → Left
 newOf top wave amplitude frequency xs = remade top zeroState (fresh wave amplitude frequency) xs
 
@@ -49,9 +50,11 @@ newOf top wave amplitude frequency xs = remade top zeroState (fresh wave amplitu
 abbrev pub highest : ℕ
 highest = 16
 
+-- 01, item 10, `set_phase`: made again with another phase
 abbrev pub phaseSet : ℕ → State → Float → List Float → Left
 phaseSet top s phase xs = remade top s (withPhase s phase) xs
 
+-- 01, item 10, `set_duty_cycle`: made again with another duty cycle
 abbrev pub dutySet : ℕ → State → Float → List Float → Left
 dutySet top s duty xs = remade top s (withDuty s duty) xs
 
@@ -61,5 +64,6 @@ portOf top voltage current frequency xs =
     let ys = generated (fresh DC voltage zero32 .shape) xs .places in
     judged zeroState xs (left (answer Done (asPort (measured top (fresh DC voltage zero32) ys) voltage current frequency)) ys)
 
+-- 01, item 10, `reset_waveform`: every sample 0, and the state of silence
 unfoldable pub resetOf : State → List Float → Left
 resetOf s xs = judged s xs (left (answer Done (silenced s)) (filled (λ (j : ℕ). zero32) (length xs) xs))

@@ -33,7 +33,7 @@ sumsOf xs k = sumsTo xs k (length xs)
 
 -- 2.0
 abbrev pub two : Float
-two = ofBits binary64 4611686018427387904
+two = ofBits binary64 0x4000000000000000
 
 -- the Rust's `sqrt(real * real + imag * imag) * 2.0 / n as f64`, narrowed
 unfoldable pub sizeOf : Sums → ℕ → Float

@@ -15,7 +15,7 @@ use Rattle.spectrum.specs.Bin.{magnitudeOf}
 
 -- 01, "Bin 0 is halved at the end": the f32 m, the magnitude of bin k, divided by 2.0 in f32
 unfoldable pub halved : ℕ → Float → Float
-halved k m = cond (eqb k 0) (div binary32 m (ofBits binary32 1073741824)) m
+halved k m = cond (eqb k 0) (div binary32 m (ofBits binary32 0x40000000)) m
 
 unfoldable pub binOf : List Float → ℕ → Float
 binOf xs k = halved k (magnitudeOf xs k)
@@ -36,6 +36,7 @@ outputShort xs out = ltb (length out) (length xs / 2)
 abbrev pub bins : List Float → List Float → List Float
 bins xs out = filled (binOf xs) (length xs / 2) out
 
+-- 01, item 6, `dft_magnitude_spectrum`: how it ends, and the output with its bins where it is done
 unfoldable pub spectrumOf : List Float → List Float → Written Float
 spectrumOf xs out =
     let o = outcomeOf (length xs) (outputShort xs out) in
