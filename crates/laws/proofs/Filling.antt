@@ -1,11 +1,10 @@
 -- A loop that fills a slice from the front, one store a turn, with f k at place k: `filled f k out` is the slice after k turns.
 -- Assumes nothing.
-use mathlib.Core.Path.{_≡_, refl, ap, _∙_}
+use mathlib.Core.Path.{_≡_, refl, ap}
 use mathlib.Core.List.{List, [], _∷_, map}
 use Prim.Native.Nat.{ℕ, zero, suc, _+_, _<_, _≤_}
 use native.Mathlib.Nat.{not-suc-le-zero, le-of-suc-le-suc}
 use native.Mathlib.Numerals.{add-one}
-use native.Mathlib.Omega.{arith}
 use lib.ListN.{length, getD, set}
 use Rattle.laws.specs.Filled.{filled}
 
@@ -45,19 +44,6 @@ module _ {A : Type 0} where
   -- one turn
   pub filled-next : (f : ℕ → A) (k : ℕ) (out now : List A) (v : A) → k < length out → v ≡ f k → now ≡ filled f k out → set now k v ≡ filled f (k + 1) out
   filled-next f k out now v h e i = rw (e, i, add-one) (filled-suc f k out h)
-
-  -- two rules that agree on the places written fill alike
-  pub filled-same : (f g : ℕ → A) (k : ℕ) (out : List A) → ((j : ℕ) → j < k → f j ≡ g j) → filled f k out ≡ filled g k out
-  unfolding filled
-  filled-same f g zero out h = refl
-  filled-same f g (suc k) [] h = refl
-  filled-same f g (suc k) (o ∷ out) h = ap (λ (x : A). x ∷ filled (λ (j : ℕ). f (suc j)) k out) (h zero (zero-lt k)) ∙ ap (λ (l : List A). g zero ∷ l) (filled-same (λ (j : ℕ). f (suc j)) (λ (j : ℕ). g (suc j)) k out (λ j l. h (suc j) (suc-lt l)))
-    where
-      zero-lt : (k : ℕ) → 0 < suc k
-      zero-lt k = omega arith
-
-      suc-lt : {j k : ℕ} → j < k → suc j < suc k
-      suc-lt h = omega arith
 
   -- every place from its own old value
   pub filled-map : (g : A → A) (d : A) (s : List A) → filled (λ (j : ℕ). g (getD s j d)) (length s) s ≡ map g s

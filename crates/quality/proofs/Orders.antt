@@ -13,10 +13,6 @@ use Rattle.quality.specs.Powers.{magnitudeIn, powerIn, Inside, Summed}
 
 -- ---- the places that a bin below n reaches
 
--- the sum over all places takes the multiples of 1 from order 1, that over the harmonics those of b from order 2
-pub all-inside : {n b : ℕ} → Inside n b 2 → Inside n 1 1
-all-inside i = record { places = i .places; bin = omega arith; end = omega (arith, i .bin, i .end); order = omega arith; before = omega (arith, i .end) }
-
 -- the multiple is one bin past the one before
 pub multiple : (n b h : ℕ) → Inside n b h → b * h ≡ b * (h - 1) + b
 multiple n b h i = ap (λ (x : ℕ). b * x) (go h (i .order)) ∙ mul-suc b (h - 1)
