@@ -10,6 +10,7 @@ use lib.Ieee.{Float, nan, binary32, ofInt}
 use lib.Ieee.Scale.{finite}
 use lib.Ieee.Positive.{num, den}
 use Rattle.laws.specs.Whole.{value, Is}
+use Rattle.number.specs.Nearest.{squared}
 use Rattle.answers.specs.declared.Outcome.the-variants.{Done}
 use Rattle.answers.specs.Numbers.{longest}
 use Rattle.power.specs.declared.Power.{Power}
@@ -47,9 +48,6 @@ squares x (suc n) = squares x n + natAbs (x n) * natAbs (x n)
 abbrev pub Within : ℤ → ℤ → ℕ → ℕ → Type 0
 Within a b t k = natAbs (a -ℤ b) * 2 ^ k ≤ t
 
-abbrev pub sq : ℕ → ℕ
-sq a = a * a
-
 pub data Sign : Type 0 where
   minus none plus : Sign
 
@@ -64,15 +62,15 @@ ActiveNear k n w p = Within (pos n *ℤ value p) (w *ℤ pos (den p)) (natAbs w 
 
 -- n² s² is within V I / 2^k of V I
 abbrev pub ApparentNear : ℕ → ℕ → ℕ → ℕ → Float → Type 0
-ApparentNear k n v i s = Within (pos (sq n * sq (num s))) (pos (v * i * sq (den s))) (v * i * sq (den s)) k
+ApparentNear k n v i s = Within (pos (squared n * squared (num s))) (pos (v * i * squared (den s))) (v * i * squared (den s)) k
 
 -- n² q² is within V I / 2^k of V I - W²
 abbrev pub ReactiveNear : ℕ → ℕ → ℕ → ℕ → ℤ → Float → Type 0
-ReactiveNear k n v i w q = Within (pos (sq n * sq (num q))) (pos (v * i * sq (den q)) -ℤ pos (sq (natAbs w) * sq (den q))) (v * i * sq (den q)) k
+ReactiveNear k n v i w q = Within (pos (squared n * squared (num q))) (pos (v * i * squared (den q)) -ℤ pos (squared (natAbs w) * squared (den q))) (v * i * squared (den q)) k
 
 -- pf² V I is within W² / 2^k of W²
 abbrev pub FactorNear : ℕ → ℕ → ℕ → ℤ → Float → Type 0
-FactorNear k v i w f = Within (pos (sq (num f) * (v * i))) (pos (sq (natAbs w) * sq (den f))) (sq (natAbs w) * sq (den f)) k
+FactorNear k v i w f = Within (pos (squared (num f) * (v * i))) (pos (squared (natAbs w) * squared (den f))) (squared (natAbs w) * squared (den f)) k
 
 -- pf has the sign of W, and so is 0 exactly when W is
 abbrev pub SignOf : ℤ → Float → Type 0
