@@ -4,7 +4,7 @@ ghost use Prim.Native.Nat.{_≤_, _<_};
 ghost use lib.ListN.{length};
 ghost use Rattle.answers.specs.Numbers.{longest};
 ghost use Rattle.figures.specs.Edges.{riseBegins, riseCounts, fallBegins, fallCounts, edgeAt, edgesOf, sampleTimeOf, timesOf};
-use timing::parts::counted;
+use number::parts::counted;
 
 // Which edge is under way (0 none, RISE or FALL), and how many samples the last of each kind has so far.
 // (A number and no bools: a struct with padding, by value in a loop, is copied through the stack at each turn.)

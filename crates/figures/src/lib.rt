@@ -52,7 +52,7 @@ fn measure(wave: Wave, amplitude: f32, frequency: f32, samples: &[f32]) -> TimeF
     let swing = level.max - level.min;
     let duty = duty::duty_of(wave, amplitude, samples);
     let times = edges::times_of(samples, level.min, swing, frequency);
-    let rate = timing::parts::counted(samples.len());
+    let rate = number::parts::counted(samples.len());
     let hertz = timing::parts::frequency(samples, level.average, rate);
     let slew = timing::parts::slew(samples, rate);
     TimeFigures {

@@ -1,20 +1,13 @@
 // One sample of each wave, operation by operation as the Rust.
 ghost use mathlib.Core.Path.{_≡_};
 ghost use Prim.Native.Nat.{_≤_, _<_};
-ghost use Rattle.laws.specs.Literals.{count32};
+ghost use Rattle.answers.specs.Numbers.{longest};
 ghost use Rattle.generator.specs.Sample.{samplesPerPeriod, pwmAt, tMod, triangularAt, sawtoothAt, sampleAt};
 use crate::Shape;
 use crate::Wave;
+use number::parts::counted;
 
 const PI: f32 = 3.14159265358979323846264338327950288;
-
-// A count of at most 65,536 as an f32, exactly.
-fn counted(n: usize) -> f32
-    requires { ⌜ n ≤ 65536 ⌝ }
-    ensures { λ r. ⌜ r ≡ count32 n ⌝ }
-{
-    n as f32
-}
 
 fn samples_per_period(frequency: f32, n: f32) -> f32
     ensures { λ r. ⌜ r ≡ samplesPerPeriod frequency n ⌝ }
@@ -67,7 +60,7 @@ fn sawtooth_at(s: Shape, n: f32, i: f32) -> f32
 
 // The sample at place i of n.
 pub fn sample_at(s: Shape, n: usize, i: usize) -> f32
-    requires { ⌜ (n ≤ 65536) × (i < n) ⌝ }
+    requires { ⌜ (n ≤ longest) × (i < n) ⌝ }
     ensures { λ r. ⌜ r ≡ sampleAt s n i ⌝ }
 {
     let length = counted(n);

@@ -1,6 +1,16 @@
-// What the measuring crates share: extremes by strict comparison, and whether all samples are numbers.
+// What the crates over samples share: counts as floats, extremes by strict comparison, and whether all samples are numbers.
 ghost use mathlib.Core.Path.{_≡_};
+ghost use Prim.Native.Nat.{_≤_};
+ghost use Rattle.laws.specs.Literals.{count32};
 ghost use Rattle.laws.specs.Samples.{higher, lower, stillNumbers, allNumbers};
+
+// A count of at most 2^24 as an f32, exactly.
+pub fn counted(n: usize) -> f32
+    requires { ⌜ n ≤ 16777216 ⌝ }
+    ensures { λ r. ⌜ r ≡ count32 n ⌝ }
+{
+    n as f32
+}
 
 // x where it is strictly above m, and m elsewhere: a NaN never replaces m.
 pub fn raised(m: f32, x: f32) -> f32

@@ -4,17 +4,10 @@ ghost use mathlib.Core.Bool.{cond};
 ghost use Prim.Native.Nat.{_+_, _-_, _≤_, _<_};
 ghost use lib.ListN.{length};
 ghost use Rattle.answers.specs.Numbers.{longest};
-ghost use Rattle.laws.specs.Literals.{zero32, count32};
+ghost use Rattle.laws.specs.Literals.{zero32};
 ghost use Rattle.laws.specs.Walks.{pairs};
 ghost use Rattle.timing.specs.Timing.{totalOf, meanOf, risesAt, crossingsOf, frequencyFrom, frequencyAbout, slopeOf, slewAt, steepestOf, slewOf};
-
-// A count as an f32, exactly.
-pub fn counted(n: usize) -> f32
-    requires { ⌜ n ≤ longest ⌝ }
-    ensures { λ r. ⌜ r ≡ count32 n ⌝ }
-{
-    n as f32
-}
+use number::parts::counted;
 
 // The sum of the samples, in the order of the index.
 pub fn total(samples: &[f32]) -> f64

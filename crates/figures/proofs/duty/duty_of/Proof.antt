@@ -10,6 +10,9 @@ use Rattle.figures.proofs.duty.duty_of.Tie as tie
 count-high-requires : tie.Need-count-high-requires
 count-high-requires c κs = search needs
 
+cast-counted : tie.Need-cast-counted
+cast-counted c = search needs
+
 counted-requires : tie.Need-counted-requires
 counted-requires c κs =
     let a = c .before .before .args in
@@ -23,4 +26,4 @@ unfolding dutyOf
 returns c = rw (c .counted2 .ensures, c .before .counted .ensures, c .before .before .count-high .ensures)
 
 pub duty-of-spec : {M : Type 1} → statement M
-duty-of-spec = tie.close (tie.spec count-high-requires counted-requires counted-requires-2 returns)
+duty-of-spec = tie.close (tie.spec count-high-requires cast-counted counted-requires counted-requires-2 returns)

@@ -1,10 +1,10 @@
--- `timing::parts::counted` meets its contract. Assumes nothing.
+-- `number::parts::counted` meets its contract: a count that small is in an f32's range. Assumes nothing.
 use native.Mathlib.Omega.{arith}
 use lib.Dec.{le→leb}
 use lib.Ieee.{inFloat}
 use borrow.Author.Needs.{needs}
-use Rattle.timing.proofs.parts.counted.Statement.{statement}
-use Rattle.timing.proofs.parts.counted.Tie as tie
+use Rattle.number.proofs.parts.counted.Statement.{statement}
+use Rattle.number.proofs.parts.counted.Tie as tie
 
 int-to-float-result : tie.Need-int-to-float-result
 unfolding inFloat
