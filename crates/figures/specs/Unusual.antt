@@ -5,7 +5,7 @@ use mathlib.Core.Path.{_≡_, refl, sym, ap, _∙_}
 use mathlib.Core.Bool.{Bool, true, false, cond, _&&_}
 use mathlib.Core.List.{List, [], _∷_, _++_}
 use lib.ListN.{length, getD}
-use lib.Ieee.{Float, nan, inf, fin, Format, binary32, binary64, add, sub, mul, div, neg, lt, le, eq, ofBits}
+use lib.Ieee.{Float, nan, inf, binary32, binary64, add, sub, mul, div, neg, lt, le, ofBits}
 use Rattle.generator.specs.declared.Wave.{Wave}
 use Rattle.generator.specs.declared.Wave.the-variants.{DC, PWM, Triangular, Sawtooth}
 use Rattle.laws.specs.Literals.{zero32, zero64, count32}

@@ -1,6 +1,6 @@
 -- The power of a bin's harmonics, order by order, and which orders are taken in. Assumes nothing.
 use mathlib.Core.Path.{_≡_, ap, _∙_, subst}
-use Prim.Native.Nat.{ℕ, suc, _+_, _-_, _*_, _/_, _≤_, _<_, min}
+use Prim.Native.Nat.{ℕ, suc, _+_, _-_, _*_, _≤_, _<_, min}
 use native.Mathlib.Nat.{le-div-iff-mul-le, mul-comm, div-eq-of-lt-le}
 use native.Mathlib.Omega.{arith}
 use lib.Ieee.{Float, binary64, add}

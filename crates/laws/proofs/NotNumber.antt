@@ -1,6 +1,6 @@
 -- A NaN in an operation gives a NaN, in either format, and in a comparison no. Assumes nothing.
 use mathlib.Core.Path.{_≡_, refl, subst}
-use mathlib.Core.Bool.{true, false, not}
+use mathlib.Core.Bool.{false, not}
 use lib.Dec.{T}
 use lib.Ieee.{Float, nan, inf, fin, Format, isNan, add, sub, mul, neg, lt, le, eq}
 

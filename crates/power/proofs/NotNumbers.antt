@@ -1,17 +1,15 @@
 -- A NaN anywhere in a capture makes p and s NaN, and q and pf 0. Assumes nothing.
 use Prim.Native.Nat.{ℕ, zero, suc}
-use mathlib.Core.Path.{_≡_, refl, sym, subst, ap, _∙_}
+use mathlib.Core.Path.{_≡_, refl, subst}
 use mathlib.Core.Bool.{Bool, true, false, not, _&&_}
 use mathlib.Core.List.{List}
 use lib.Dec.{T}
 use lib.ListN.{length, getD}
-use lib.Ieee.{Float, nan, inf, fin, Format, binary32, binary64, isNan, add, sub, mul, div, lt, ofBits}
+use lib.Ieee.{Float, nan, binary32, binary64, isNan, add, sub, mul, div, lt, ofBits}
 use Rattle.laws.specs.Walks.{over}
 use Rattle.laws.specs.Samples.{stillNumbers, allNumbers}
 use Rattle.laws.proofs.NotNumber.{tested-nan, add-nan, nan-add, mul-nan, nan-mul}
 use Rattle.number.specs.Number.{narrow, root}
-use Rattle.power.specs.declared.parts.Sums.{Sums}
-use Rattle.power.specs.declared.Power.{Power}
 use Rattle.power.specs.Power.{sumTo, sumsTo, meanOf, activeOf, narrowedRoot, apparentOf, factorOf, aboveZero, reactiveOf, recordWith, recordOf, nanPower}
 
 -- ---- in a sum: of x with any other samples, on either side

@@ -1,7 +1,7 @@
 -- `power::blocks::products` meets its contract. The invariant: the first j places of each buffer hold their products. The measure is what is left. Assumes nothing.
-use mathlib.Core.Path.{_≡_, refl, ap, _∙_}
+use mathlib.Core.Path.{_≡_, refl}
 use mathlib.Core.Bool.{not}
-use Prim.Native.Nat.{ℕ, _+_, _-_, _≤_}
+use Prim.Native.Nat.{_+_, _-_, _≤_}
 use native.Mathlib.Omega.{arith}
 use borrow.Author.Needs.{needs}
 use denote.Ref.{now}
@@ -10,7 +10,7 @@ use lib.ListN.{length, getD, set}
 use lib.Ieee.{Float, nan, binary64, fits, isNan}
 use lib.Ieee.Fits.{and-i, fits-widens}
 use Rattle.laws.specs.Filled.{filled}
-use Rattle.laws.proofs.Filling.{filled-none, filled-length, filled-next}
+use Rattle.laws.proofs.Filling.{filled-none, filled-next}
 use Rattle.laws.proofs.Numbers.{all-numbers-at}
 use Rattle.power.specs.Blocks.{productFrom}
 use Rattle.power.proofs.blocks.products.Statement.{statement}

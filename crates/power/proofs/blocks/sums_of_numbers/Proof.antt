@@ -1,7 +1,7 @@
 -- `power::blocks::sums_of_numbers` meets its contract. The invariant: the sums are those of the first k pairs, and the buffers keep their length. The measure is what is
 -- left of the capture; a block is never empty. Assumes nothing.
-use mathlib.Core.Path.{_≡_, refl, sym, ap, _∙_}
-use Prim.Native.Nat.{ℕ, _+_, _-_, _≤_}
+use mathlib.Core.Path.{_≡_, refl, ap, _∙_}
+use Prim.Native.Nat.{_-_, _≤_}
 use native.Mathlib.Omega.{arith}
 use borrow.Author.Needs.{needs}
 use denote.Ref.{now}

@@ -1,10 +1,8 @@
 -- `power::blocks::sums_with` meets its contract. The invariant: each sum has the first j products. The measure is what is left. Assumes nothing.
-use mathlib.Core.Path.{_≡_, refl, ap, _∙_}
-use Prim.Native.Nat.{ℕ, _+_, _-_, _≤_}
+use mathlib.Core.Path.{_≡_, refl}
+use Prim.Native.Nat.{_-_, _≤_}
 use native.Mathlib.Omega.{arith}
 use borrow.Author.Needs.{needs}
-use denote.Ref.{now}
-use lib.ListN.{length}
 use lib.Ieee.{binary64, add}
 use Rattle.laws.specs.Walks.{over}
 use Rattle.laws.proofs.Turn.{over-next}
