@@ -715,9 +715,18 @@ fn signals(lines: &mut Lines) {
     }
 }
 
-/// The sequences of crate `sequences` on a signal that keeps its samples.
+/// A setting, and 01's THD after it.
+fn set_again(signal: &mut Signal, setting: impl FnOnce(&mut Signal)) {
+    let earlier = signal.get_metrics().thd;
+    setting(signal);
+    with_thd(signal, earlier);
+}
+
+/// The sequences of crate `sequences` on a signal that keeps its samples: duty cycle and phase; phase and reset; the metrics after a duty cycle;
+/// the power of a port after its voltage was set.
 fn held(lines: &mut Lines) {
-    for _ in 0..300 {
+    for round in 0..300 {
+        let which = 1 + round % 3;
         let n = lines.random.pick(&[0, 1, 2, 4, 8, 8, 16, 16, 32, 3, 12]);
         let out = lines.random.samples(Kind::Small, n);
         let (wave, amplitude) = (lines.random.below(4) as u8, lines.setting());
@@ -726,19 +735,63 @@ fn held(lines: &mut Lines) {
         let mut samples = out.clone();
         let mut signal = Signal::new(wave_of(wave), amplitude, frequency, &mut samples);
         with_thd(&mut signal, 0.0);
-        let earlier = signal.get_metrics().thd;
-        signal.set_duty_cycle(duty);
-        with_thd(&mut signal, earlier);
-        let earlier = signal.get_metrics().thd;
-        signal.set_phase(phase);
-        with_thd(&mut signal, earlier);
-        let said = answered(&signal, &out);
-        let words = [wave as u32]
-            .into_iter()
-            .chain([amplitude, frequency, duty, phase].iter().map(word))
-            .collect();
+        if which != 2 {
+            set_again(&mut signal, |s| s.set_duty_cycle(duty));
+        }
+        if which != 3 {
+            set_again(&mut signal, |s| s.set_phase(phase));
+        }
+        if which == 2 {
+            signal.reset_waveform();
+        }
+        let mut said = answered(&signal, &out);
+        if which == 3 {
+            said.code = 0;
+            said.floats.truncate(20);
+        }
+        let numbers = match which {
+            1 => vec![amplitude, frequency, duty, phase],
+            2 => vec![amplitude, frequency, phase],
+            _ => vec![amplitude, frequency, duty],
+        };
+        let words = [wave as u32].into_iter().chain(numbers.iter().map(word)).collect();
         lines.line(
-            1,
+            which,
+            &Given {
+                words,
+                out,
+                ..Given::default()
+            },
+            &said,
+        );
+    }
+    for _ in 0..100 {
+        let n = lines.random.pick(&[0, 1, 2, 4, 8, 16, 32, 3, 12]);
+        let out = lines.random.samples(Kind::Small, n);
+        let numbers = [lines.setting(), lines.setting(), lines.setting()];
+        let ([voltage, current, next], frequency) = (numbers, lines.random.pick(&[None, Some(50.0)]));
+        let mut samples = out.clone();
+        let mut signal = Signal::new_power_port(voltage, current, frequency, &mut samples);
+        signal.set_voltage(next);
+        let on_grid = n == 0 || n.is_power_of_two();
+        let power = if on_grid {
+            signal.instantaneous_power()
+        } else {
+            next * 0.0
+        };
+        let said = Said {
+            floats: vec![power],
+            out: if on_grid { samples } else { out.clone() },
+            ..Said::default()
+        };
+        let words = [
+            &[word(&voltage), word(&current)][..],
+            &reading(frequency),
+            &[word(&next)],
+        ]
+        .concat();
+        lines.line(
+            4,
             &Given {
                 words,
                 out,

@@ -1,5 +1,5 @@
-// Replays a sample of the oracle's answers over time figures, ports and signals: 01's items 5, 9 and 10. Prints how many cases there were, and how many
-// answers differ. replaying says how a case stands in its line.
+// Replays a sample of the oracle's answers over time figures, ports and signals, by value and held: 01's items 5, 9 and 10. Prints how many
+// cases there were, and how many answers differ. replaying says how a case stands in its line.
 use replaying::files;
 use replaying::files::Tally;
 use replaying::lists;
@@ -20,7 +20,7 @@ fn call(line: &[u8], a: &[f32], out: &mut [f32]) -> Said {
         5 => of_figures::call(line, a),
         9 => of_port::call(line, which),
         10 => of_signal::call(line, which, out),
-        12 => of_held::call(line, out),
+        12 => of_held::call(line, which, out),
         _ => said::nothing(),
     }
 }
