@@ -1,5 +1,5 @@
-//! Writes the data that the programs replay, replay_signal and replay_lines of crates/ replay: a sample of inputs, the same in every run, and what the
-//! published Rust answers to each. How a line is read stands in crates/replaying/src/lib.rt.
+//! Writes the data that the program crates/replay replays: a sample of inputs, the same in every run, and what the published Rust answers to each. How a line
+//! is read stands in crates/replay/src/main.rt.
 
 mod captures;
 mod limits;
@@ -11,31 +11,31 @@ use crate::signal::{self, Signal, SignalMetrics, SignalType};
 use crate::spectrum::over_sines;
 use std::process::ExitCode;
 
-/// Where the programs stand.
-const CRATES: &str = concat!(env!("CARGO_MANIFEST_DIR"), "/../crates");
+/// Where the files go.
+const DATA: &str = concat!(env!("CARGO_MANIFEST_DIR"), "/../crates/replay/data");
 
 /// The most places of a list whose numbers stand in the line one by one.
 const ROOM: usize = 32;
 
-/// The files: the program, the name, the seed, 01's item, and what makes the lines.
-const FILES: [(&str, &str, u64, u32, fn(&mut Lines)); 17] = [
-    ("replay", "number", 101, 1, number),
-    ("replay", "samples", 102, 2, samples),
-    ("replay", "timing", 103, 3, timing),
-    ("replay", "power", 104, 4, power),
-    ("replay_signal", "figures", 105, 5, figures),
-    ("replay", "spectrum", 106, 6, spectrum),
-    ("replay", "quality", 107, 7, quality),
-    ("replay", "generator", 108, 8, generator),
-    ("replay_signal", "port", 109, 9, port),
-    ("replay_signal", "signal", 110, 10, signals),
-    ("replay_lines", "capture", 111, 11, captures::capture),
-    ("replay_lines", "codes", 112, 4, captures::codes),
-    ("replay_lines", "report", 113, 11, captures::report),
-    ("replay_signal", "held", 112, 12, held),
-    ("replay", "limits", 114, 0, limits::slices),
-    ("replay_signal", "limits", 115, 0, limits::signals),
-    ("replay_lines", "limits", 116, 0, limits::captures),
+/// The files: the name, the seed, 01's item, and what makes the lines.
+const FILES: [(&str, u64, u32, fn(&mut Lines)); 17] = [
+    ("number", 101, 1, number),
+    ("samples", 102, 2, samples),
+    ("timing", 103, 3, timing),
+    ("power", 104, 4, power),
+    ("figures", 105, 5, figures),
+    ("spectrum", 106, 6, spectrum),
+    ("quality", 107, 7, quality),
+    ("generator", 108, 8, generator),
+    ("port", 109, 9, port),
+    ("signal", 110, 10, signals),
+    ("capture", 111, 11, captures::capture),
+    ("codes", 112, 4, captures::codes),
+    ("report", 113, 11, captures::report),
+    ("held", 112, 12, held),
+    ("limits", 114, 0, limits::slices),
+    ("signal_limits", 115, 0, limits::signals),
+    ("capture_limits", 116, 0, limits::captures),
 ];
 
 /// The lines of one file, and the inputs' source.
@@ -802,21 +802,19 @@ fn held(lines: &mut Lines) {
     }
 }
 
-/// Writes every file, and says how many lines each program has.
+/// Writes every file, and says how many lines there are in all.
 pub fn write() -> ExitCode {
-    for program in ["replay", "replay_signal", "replay_lines"] {
-        let mut total = 0;
-        for (_, name, seed, item, make) in FILES.iter().filter(|file| file.0 == program) {
-            let mut lines = Lines {
-                random: Random::new(*seed),
-                item: *item,
-                text: String::new(),
-            };
-            make(&mut lines);
-            total += lines.text.lines().count();
-            std::fs::write(format!("{CRATES}/{program}/data/{name}"), lines.text).expect("its data can be written");
-        }
-        println!("{program}: {total} cases");
+    let mut total = 0;
+    for (name, seed, item, make) in FILES.iter() {
+        let mut lines = Lines {
+            random: Random::new(*seed),
+            item: *item,
+            text: String::new(),
+        };
+        make(&mut lines);
+        total += lines.text.lines().count();
+        std::fs::write(format!("{DATA}/{name}"), lines.text).expect("its data can be written");
     }
+    println!("{total} cases");
     ExitCode::SUCCESS
 }

@@ -1,104 +1,99 @@
-// Replays a sample of the oracle's answers over numbers and slices: 01's items 1 to 4 and 6 to 8. Prints how many cases there were, and how many answers
-// differ. replaying says how a case stands in its line.
-use replaying::files;
-use replaying::files::Tally;
-use replaying::lists;
-use replaying::lists::Places;
-use replaying::read;
-use replaying::said;
-use replaying::said::Said;
+// Replays a sample of the oracle's answers, and prints how many cases there were and how many answers differ. A file of cases has one case a line, in words
+// (read.rt): how many words the line has; 01's item and which of its calls; then four times a count and so many words, for the numbers that the call is
+// given, two slices, and a slice that it may write to; what it answered (said.rt), and that slice afterwards. A slice of more than ROOM places has one number
+// in all of them, which stands in the line once.
+use files::Tally;
 
+mod files;
+mod lines;
+mod lists;
+mod of_capture;
+mod of_codes;
+mod of_figures;
 mod of_generator;
+mod of_held;
+mod of_limits;
 mod of_number;
+mod of_port;
 mod of_power;
 mod of_quality;
+mod of_report;
 mod of_samples;
+mod of_signal;
 mod of_spectrum;
 mod of_timing;
+mod packed;
+mod read;
+mod said;
+mod signals;
+mod slices;
 
-// The call that a line names, on these slices.
-fn call(line: &[u8], a: &[f32], b: &[f32], out: &mut [f32]) -> Said {
-    let which = read::word(line, 2);
-    match read::word(line, 1) {
-        1 => of_number::call(line, which),
-        2 => of_samples::call(line, which, a, b, out),
-        3 => of_timing::call(line, which, a),
-        4 => of_power::call(a, b),
-        6 => of_spectrum::call(line, which, a, out),
-        7 => of_quality::call(line, which, a),
-        8 => of_generator::call(line, out),
-        _ => said::nothing(),
+// What the cases of a file are about.
+enum Kind {
+    Slices,
+    Signals,
+    Lines,
+}
+
+// Whether the library answers this line as the oracle did.
+fn agrees(kind: Kind, line: &[u8]) -> bool {
+    match kind {
+        Kind::Slices => slices::agrees(line),
+        Kind::Signals => signals::agrees(line),
+        Kind::Lines => lines::agrees(line),
     }
 }
 
-// The call on the first places of these.
-fn on_parts(line: &[u8], at: Places, a: &[f32], b: &[f32], out: &mut [f32]) -> Said {
-    let na = read::least(at.na, a.len());
-    let nb = read::least(at.nb, b.len());
-    let n = read::least(at.n, out.len());
-    let from = 0usize;
-    call(line, &a[from..na], &b[from..nb], &mut out[from..n])
-}
-
-// Whether the library answers as the oracle did, with the line's slices in these.
-fn on(line: &[u8], at: Places, a: &mut [f32], b: &mut [f32], out: &mut [f32]) -> bool {
-    lists::fill(line, at.a, at.na, a);
-    lists::fill(line, at.b, at.nb, b);
-    lists::fill(line, at.out, at.n, out);
-    let said = on_parts(line, at, a, b, out);
-    said::same(line, at.said, said, at.n, out)
-}
-
-// One place more than a slice may have, where that is what a case is about.
-fn agrees(line: &[u8]) -> bool {
-    let at = lists::placed(line);
-    if lists::is_long(at) {
-        return on(
-            line,
-            at,
-            &mut [0.0f32; 65537],
-            &mut [0.0f32; 65537],
-            &mut [0.0f32; 65537],
-        );
-    }
-    on(
-        line,
-        at,
-        &mut [0.0f32; 32],
-        &mut [0.0f32; 32],
-        &mut [0.0f32; 32],
-    )
-}
-
-fn replay(cases: &[u8], before: Tally) -> Tally {
+fn replay(kind: Kind, cases: &[u8], before: Tally) -> Tally {
     let mut tally = before;
     let mut at = 0usize;
     while at < cases.len() {
         let end = files::line_end(cases, at);
-        tally = files::counted(tally, agrees(&cases[at..end]));
+        tally = files::counted(tally, agrees(kind, &cases[at..end]));
         at = end;
     }
     tally
 }
 
 // The cases of one file, after those before.
-fn file_in(room: &mut [u8], name: &[u8], before: Tally) -> Tally {
+fn file_in(room: &mut [u8], kind: Kind, name: &[u8], before: Tally) -> Tally {
     let n = files::load(name, room);
-    replay(&room[..n], before)
+    replay(kind, &room[..n], before)
 }
 
-fn file(name: &[u8], before: Tally) -> Tally {
-    file_in(&mut [0u8; 262144], name, before)
+fn file(kind: Kind, name: &[u8], before: Tally) -> Tally {
+    file_in(&mut [0u8; 262144], kind, name, before)
+}
+
+fn of_slices(before: Tally) -> Tally {
+    let tally = file(Kind::Slices, b"number", before);
+    let tally = file(Kind::Slices, b"samples", tally);
+    let tally = file(Kind::Slices, b"timing", tally);
+    let tally = file(Kind::Slices, b"power", tally);
+    let tally = file(Kind::Slices, b"spectrum", tally);
+    let tally = file(Kind::Slices, b"quality", tally);
+    let tally = file(Kind::Slices, b"generator", tally);
+    file(Kind::Slices, b"limits", tally)
+}
+
+fn of_signals(before: Tally) -> Tally {
+    let tally = file(Kind::Signals, b"figures", before);
+    let tally = file(Kind::Signals, b"port", tally);
+    let tally = file(Kind::Signals, b"signal", tally);
+    let tally = file(Kind::Signals, b"held", tally);
+    file(Kind::Signals, b"signal_limits", tally)
+}
+
+fn of_lines(before: Tally) -> Tally {
+    let tally = file(Kind::Lines, b"capture", before);
+    let tally = file(Kind::Lines, b"codes", tally);
+    let tally = file(Kind::Lines, b"report", tally);
+    file(Kind::Lines, b"capture_limits", tally)
 }
 
 fn main() {
-    let tally = file(b"number", files::none());
-    let tally = file(b"samples", tally);
-    let tally = file(b"timing", tally);
-    let tally = file(b"power", tally);
-    let tally = file(b"spectrum", tally);
-    let tally = file(b"quality", tally);
-    let tally = file(b"generator", tally);
-    let tally = file(b"limits", tally);
+    let tally = of_slices(files::none());
+    let tally = of_signals(tally);
+    let tally = of_lines(tally);
     files::print(tally);
 }

@@ -1,7 +1,7 @@
 // `compute_power`: p, q, s and pf.
-use replaying::lists::ROOM;
-use replaying::said;
-use replaying::said::Said;
+use crate::lists::ROOM;
+use crate::said;
+use crate::said::Said;
 
 pub fn call(a: &[f32], b: &[f32]) -> Said {
     let r = power::compute_power(a, b, 1.0);

@@ -1,7 +1,7 @@
 // Offset, factor and sum.
-use replaying::read;
-use replaying::said;
-use replaying::said::Said;
+use crate::read;
+use crate::said;
+use crate::said::Said;
 
 pub fn call(line: &[u8], which: u32, a: &[f32], b: &[f32], out: &mut [f32]) -> Said {
     match which {

@@ -1,9 +1,9 @@
 // The spectrum, and the same with a scratch. Behind the scratch's length a line has what stands in it afterwards, as f64.
+use crate::lists::ROOM;
+use crate::read;
+use crate::said;
+use crate::said::Said;
 use answers::Outcome;
-use replaying::lists::ROOM;
-use replaying::read;
-use replaying::said;
-use replaying::said::Said;
 
 fn on_part(scratch: &mut [f64], n: usize, a: &[f32], out: &mut [f32]) -> Outcome {
     let n = read::least(n, scratch.len());

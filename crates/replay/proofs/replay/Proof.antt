@@ -7,10 +7,10 @@ use Rattle.replay.proofs.replay.Statement.{statement}
 use Rattle.replay.proofs.replay.Tie as tie
 
 abbrev Inv-loop : tie.InvT-loop
-Inv-loop cases tally₀ at₀ tally at = at ≤ length cases
+Inv-loop kind cases tally₀ at₀ tally at = at ≤ length cases
 
 abbrev μ-loop : tie.MeasureT-loop
-μ-loop cases tally₀ at₀ tally at = length cases - at
+μ-loop kind cases tally₀ at₀ tally at = length cases - at
 
 loop-holds : tie.Need-loop-holds Inv-loop μ-loop
 loop-holds c = omega arith

@@ -1,0 +1,69 @@
+// The sequences on a signal that keeps its samples: three make it of a wave, an amplitude and a frequency, and one of a port's readings.
+use crate::of_figures;
+use crate::of_port;
+use crate::of_signal;
+use crate::read;
+use crate::said;
+use crate::said::Said;
+use answers::Outcome;
+use signal::Answer;
+
+fn answered(a: Answer) -> Said {
+    let outcome = a.outcome;
+    let state = a.state;
+    said::floats(outcome, of_signal::list(state))
+}
+
+fn shaped(line: &[u8], out: &mut [f32]) -> Said {
+    answered(sequences::shaped(
+        generator::wave_of(read::byte(line, 4)),
+        read::float(line, 5),
+        read::float(line, 6),
+        read::float(line, 7),
+        read::float(line, 8),
+        out,
+    ))
+}
+
+fn emptied(line: &[u8], out: &mut [f32]) -> Said {
+    answered(sequences::emptied(
+        generator::wave_of(read::byte(line, 4)),
+        read::float(line, 5),
+        read::float(line, 6),
+        read::float(line, 7),
+        out,
+    ))
+}
+
+fn measured(line: &[u8], out: &mut [f32]) -> Said {
+    let metrics = sequences::measured(
+        generator::wave_of(read::byte(line, 4)),
+        read::float(line, 5),
+        read::float(line, 6),
+        read::float(line, 7),
+        out,
+    );
+    let figures = metrics.figures;
+    let mut xs = of_figures::list(figures);
+    xs[19] = metrics.thd;
+    said::floats(Outcome::Done, xs)
+}
+
+fn powered(line: &[u8], out: &mut [f32]) -> Said {
+    said::float(sequences::powered(
+        read::float(line, 4),
+        read::float(line, 5),
+        of_port::reading_at(line, 6),
+        read::float(line, 8),
+        out,
+    ))
+}
+
+pub fn call(line: &[u8], which: u32, out: &mut [f32]) -> Said {
+    match which {
+        1 => shaped(line, out),
+        2 => emptied(line, out),
+        3 => measured(line, out),
+        _ => powered(line, out),
+    }
+}
