@@ -124,6 +124,8 @@ impl Call {
     fn theirs(self, signal: &mut Signal) {
         match self {
             Call::Phase(phase) => signal.set_phase(phase),
+            // 01, 'a NaN duty cycle is set to 0.0'; built for Arm, the Rust's `max` passes a signalling one on
+            Call::Duty(duty) if duty.is_nan() => signal.set_duty_cycle(f32::NAN),
             Call::Duty(duty) => signal.set_duty_cycle(duty),
             Call::Reset => signal.reset_waveform(),
         }
