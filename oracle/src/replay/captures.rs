@@ -21,6 +21,19 @@ fn packed(text: &[u8]) -> Vec<u32> {
         .collect()
 }
 
+/// A call that is given words alone, and answers a number.
+pub fn ended(lines: &mut Lines, which: u32, words: Vec<u32>, code: u32) {
+    let given = Given {
+        words,
+        ..Given::default()
+    };
+    let said = Said {
+        code,
+        ..Said::default()
+    };
+    lines.line(which, &given, &said);
+}
+
 /// A capture of up to 20 pairs in a few lines, often spoiled in one place.
 fn text(random: &mut Random) -> Vec<u8> {
     let mut number = random.pick(&[0, 1, 0xFFFE, 0xFFFF, 0x1234]);
@@ -65,17 +78,7 @@ pub fn capture(lines: &mut Lines) {
         words.extend(pairs(&volts, &amps));
         words.extend(packed(&text));
         let code = read.code as u32 + 16 * read.line as u32 + 65_536 * read.pairs as u32;
-        lines.line(
-            1,
-            &Given {
-                words,
-                ..Given::default()
-            },
-            &Said {
-                code,
-                ..Said::default()
-            },
-        );
+        ended(lines, 1, words, code);
     }
     for round in 0..150 {
         let codes = [0; 40].map(|_| lines.random.bits() as i16);
@@ -99,17 +102,7 @@ pub fn capture(lines: &mut Lines) {
         words.extend(pairs(volts, amps));
         words.extend(packed(&text[..room]));
         let code = written.code as u32 + 16 * written.bytes as u32;
-        lines.line(
-            2,
-            &Given {
-                words,
-                ..Given::default()
-            },
-            &Said {
-                code,
-                ..Said::default()
-            },
-        );
+        ended(lines, 2, words, code);
     }
 }
 
@@ -169,18 +162,7 @@ fn reported(lines: &mut Lines, input: &[u8], room: usize) {
     let mut words = vec![input.len() as u32, room as u32];
     words.extend(packed(&printed));
     words.extend(packed(input));
-    let given = Given {
-        words,
-        ..Given::default()
-    };
-    lines.line(
-        3,
-        &given,
-        &Said {
-            code,
-            ..Said::default()
-        },
-    );
+    ended(lines, 3, words, code);
 }
 
 /// The edges that have room here, each with much, enough, too little and no room; then captures of a few lines, every other one changed.

@@ -1,6 +1,6 @@
 //! The limit of 65,536: slices of that many places and of one more. What is refused with 3, and before it what would be refused otherwise, comes from 01.
 
-use super::captures::{pairs, power};
+use super::captures::{ended, pairs, power};
 use super::{reading, shown, with_thd, word, words, Given, Lines, Said, SCRATCH};
 use crate::generator::wave_of;
 use crate::lines::{self, LONGEST};
@@ -278,7 +278,7 @@ fn reads(lines: &mut Lines) {
             words.push(k as u32);
             words.extend(pairs(&volts[k..=k], &amps[k..=k]));
         }
-        ended(lines, 5, words, read.code);
+        ended(lines, 5, words, read.code as u32);
     }
 }
 
@@ -301,7 +301,7 @@ fn writes(lines: &mut Lines) {
         for k in [0, 561_151, 561_152] {
             words.extend([k as u32, text[k] as u32]);
         }
-        ended(lines, 6, words, written.code);
+        ended(lines, 6, words, written.code as u32);
     }
 }
 
@@ -315,19 +315,4 @@ fn powers(lines: &mut Lines) {
         };
         lines.line(7, &given, &power(&vec![CODES.0; nv], &vec![CODES.1; na]));
     }
-}
-
-fn ended(lines: &mut Lines, which: u32, words: Vec<u32>, code: u8) {
-    let given = Given {
-        words,
-        ..Given::default()
-    };
-    lines.line(
-        which,
-        &given,
-        &Said {
-            code: code as u32,
-            ..Said::default()
-        },
-    );
 }
