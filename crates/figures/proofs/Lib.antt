@@ -2,3 +2,4 @@
 pub mod Bounds
 pub mod NanSums
 pub mod Whole
+pub mod Unusual

@@ -15,7 +15,7 @@ use Rattle.figures.specs.Levels.{adding, sumOf}
 use Rattle.laws.proofs.NotNumber.{add-nan, nan-add}
 
 module _ (f : Float → Float) (xs : List Float) (k : ℕ) (e : f (getD xs k nan) ≡ nan) where
-  by-then : (n : ℕ) → k < n → over (adding f) zero64 xs n ≡ nan
+  pub by-then : (n : ℕ) → k < n → over (adding f) zero64 xs n ≡ nan
   unfolding over
   by-then zero h = absurd (never k h)
     where

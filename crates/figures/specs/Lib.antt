@@ -4,5 +4,4 @@ pub mod Duty
 pub mod Edges
 pub mod Ratios
 pub mod Figures
-pub mod Unusual
 pub mod Shown

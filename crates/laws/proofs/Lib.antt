@@ -15,3 +15,4 @@ pub mod Stores
 pub mod Harmonics
 pub mod NotNumber
 pub mod NotFinite
+pub mod Quotients

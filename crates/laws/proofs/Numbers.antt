@@ -1,8 +1,9 @@
 -- A comparison of a float with itself tells a NaN; and where a pass over all samples found none, each sample is a number. Assumes nothing.
-use mathlib.Core.Path.{_≡_, refl, sym, subst, _∙_}
+use mathlib.Core.Path.{_≡_, refl, sym, ap, ap₂, subst, _∙_}
 use mathlib.Core.Bool.{Bool, true, false, not, _&&_}
 use mathlib.Core.List.{List}
-use Prim.Native.Nat.{ℕ, zero, suc, _<_}
+use Prim.Native.Nat.{ℕ, zero, suc, _+_, _<_}
+use native.Mathlib.Nat.{zero-add}
 use native.Mathlib.Omega.{arith}
 use native.Mathlib.Decide.{decLe}
 use lib.Dec.{T}
@@ -10,7 +11,7 @@ use lib.ListN.{length, getD}
 use lib.Ieee.{Float, nan, inf, fin, isNan, ne}
 use lib.Ieee.Compare.{differs-from-itself, nan-differs}
 use Rattle.laws.specs.Walks.{over}
-use Rattle.laws.specs.Samples.{stillNumbers, allNumbers}
+use Rattle.laws.specs.Samples.{stillNumbers, allNumbers, numbersIn}
 
 -- what `x != x` says
 pub is-nan : (x : Float) → ne x x ≡ true → x ≡ nan
@@ -21,6 +22,14 @@ unfolding isNan
 no-nan nan e = absurd (subst T (sym nan-differs ∙ e) tt)
 no-nan (inf s) e = tt
 no-nan (fin s m d) e = tt
+
+pub number-same : (x : Float) → T (not (isNan x)) → ne x x ≡ false
+unfolding isNan
+number-same x h = go (ne x x) refl
+  where
+    go : (b : Bool) → ne x x ≡ b → ne x x ≡ false
+    go false e = e
+    go true e = absurd (subst (λ (y : Float). T (not (isNan y))) (is-nan x e) h)
 
 -- ---- one pass over the samples
 pub still-nan : (t : Bool) (x : Float) → ne x x ≡ true → false ≡ stillNumbers t x
@@ -45,20 +54,28 @@ both true true e = (refl, tt)
 both true false e = absurd (subst T (sym e) tt)
 both false u e = absurd (subst T (sym e) tt)
 
-so-far : (xs : List Float) (n k : ℕ) → over stillNumbers true xs n ≡ true → k < n → T (not (isNan (getD xs k nan)))
-unfolding over stillNumbers
-so-far xs zero k e h = absurd (never k h)
+-- where some samples were found to be numbers, each of them is
+pub numbers-in-at : (xs : List Float) (from n k : ℕ) → numbersIn xs from n ≡ true → k < n → T (not (isNan (getD xs (from + k) nan)))
+unfolding numbersIn stillNumbers
+numbers-in-at xs from zero k e h = absurd (never k h)
   where
     never : (k : ℕ) → k < 0 → ⊥
     never k h = omega arith
-so-far xs (suc n) k e h =
-    let b = both (over stillNumbers true xs n) (not (isNan (getD xs n nan))) e in
+numbers-in-at xs from (suc n) k e h =
+    let b = both (numbersIn xs from n) (not (isNan (getD xs (from + n) nan))) e in
     elim (decLe n k) [
-      | yes l ↦ let m : k ≡ n = omega arith in subst (λ (i : ℕ). T (not (isNan (getD xs i nan)))) (sym m) (b .1)
-      | no l ↦ so-far xs n k (b .0) (omega arith)
+      | yes l ↦ let m : k ≡ n = omega arith in subst (λ (i : ℕ). T (not (isNan (getD xs (from + i) nan)))) (sym m) (b .1)
+      | no l ↦ numbers-in-at xs from n k (b .0) (omega arith)
     ]
 
--- where all samples are numbers, each is
+-- all samples are those from place 0 on
+pub numbers-in-all : (xs : List Float) → numbersIn xs 0 (length xs) ≡ allNumbers xs
+unfolding allNumbers numbersIn over
+numbers-in-all xs = go (length xs)
+  where
+    go : (k : ℕ) → numbersIn xs 0 k ≡ over stillNumbers true xs k
+    go zero = refl
+    go (suc k) = ap₂ stillNumbers (go k) (ap (λ (i : ℕ). getD xs i nan) (zero-add k))
+
 pub all-numbers-at : (xs : List Float) (k : ℕ) → allNumbers xs ≡ true → k < length xs → T (not (isNan (getD xs k nan)))
-unfolding allNumbers
-all-numbers-at xs k e h = so-far xs (length xs) k e h
+all-numbers-at xs k e h = subst (λ (i : ℕ). T (not (isNan (getD xs i nan)))) (zero-add k) (numbers-in-at xs 0 (length xs) k (numbers-in-all xs ∙ e) h)

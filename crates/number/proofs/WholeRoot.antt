@@ -105,16 +105,13 @@ digits-done N P k y u U L =
 
 -- ---- j digits off the root are 2 * j digits off the number
 
-sq-mul : (a b : ℕ) → a * b * (a * b) ≡ a * a * (b * b)
-sq-mul a b = mul-mul-mul-comm a b a b
-
 pub root-cut : (N r w : ℕ) → 0 < w → IsRoot (N * (w * w)) r → IsRoot N (r / w)
 root-cut N r w W h =
     let q = r / w in
     let lo : q * w ≤ r = div-mul-le-self r w in
     let hi : r < suc q * w = div-lt-iff-lt-mul W .0 (le-refl (suc q)) in (
-      le-of-mul-le-mul-right (le-trans (le-of-eq (sym (sq-mul q w))) (le-trans (sq-mono lo) (h .0))) (mul-pos W W),
-      lt-of-mul-lt-mul-right (w * w) (lt-of-lt-of-le (h .1) (le-trans (sq-mono hi) (le-of-eq (sq-mul (suc q) w)))),
+      le-of-mul-le-mul-right (le-trans (le-of-eq (sym (mul-mul-mul-comm q w q w))) (le-trans (sq-mono lo) (h .0))) (mul-pos W W),
+      lt-of-mul-lt-mul-right (w * w) (lt-of-lt-of-le (h .1) (le-trans (sq-mono hi) (le-of-eq (mul-mul-mul-comm (suc q) w (suc q) w)))),
     )
 
 -- ---- an odd number's square is no even number

@@ -1,8 +1,10 @@
 // What the crates over samples share: counts as floats, extremes by strict comparison, and whether all samples are numbers.
 ghost use mathlib.Core.Path.{_≡_};
-ghost use Prim.Native.Nat.{_≤_};
+ghost use mathlib.Core.Bool.{cond};
+ghost use Prim.Native.Nat.{_+_, _≤_, _<_};
+ghost use lib.ListN.{length};
 ghost use Rattle.laws.specs.Literals.{count32};
-ghost use Rattle.laws.specs.Samples.{higher, lower, stillNumbers, allNumbers};
+ghost use Rattle.laws.specs.Samples.{higher, lower, allNumbers, numbersIn};
 
 // A count of at most 2^24 as an f32, exactly.
 pub fn counted(n: usize) -> f32
@@ -26,22 +28,34 @@ pub fn lowered(m: f32, x: f32) -> f32
     if x < m { x } else { m }
 }
 
-// One sample more.
-fn still_numbers(so_far: bool, x: f32) -> bool
-    ensures { λ r. ⌜ r ≡ stillNumbers «so_far» x ⌝ }
+// One more where the test holds.
+pub fn tallied(n: u32, holds: bool) -> u32
+    requires { ⌜ n < 4294967295 ⌝ }
+    ensures { λ r. ⌜ r ≡ cond holds (n + 1) n ⌝ }
 {
-    if x != x { false } else { so_far }
+    if holds { n + 1 } else { n }
 }
 
-// Whether no sample is a NaN: where it holds, `as f64` is defined at each sample, and a loop over them needs no test of its own.
-pub fn all_numbers(samples: &[f32]) -> bool
-    ensures { λ r. ⌜ r ≡ allNumbers (now (samples .entry)) ⌝ }
+// Whether none of so many samples from a place on is a NaN: where it holds, `as f64` is defined at each, and a loop over them needs no test of its own.
+// (Counting them is what processors do best: four samples at a time, and nothing waits for a test.)
+pub fn numbers_in(samples: &[f32], from: usize, count: usize) -> bool
+    requires { ⌜ (from + count ≤ length (now samples)) × (count < 4294967295) ⌝ }
+    ensures { λ r. ⌜ r ≡ numbersIn (now (samples .entry)) from count ⌝ }
 {
-    let mut so_far = true;
+    let mut n = 0u32;
     let mut k = 0usize;
-    while k < samples.len() {
-        so_far = still_numbers(so_far, samples[k]);
+    while k < count {
+        let x = samples[from + k];
+        n = tallied(n, x == x);
         k += 1;
     }
-    so_far
+    n as usize == count
+}
+
+// Whether no sample is a NaN.
+pub fn all_numbers(samples: &[f32]) -> bool
+    requires { ⌜ length (now samples) < 4294967295 ⌝ }
+    ensures { λ r. ⌜ r ≡ allNumbers (now (samples .entry)) ⌝ }
+{
+    numbers_in(samples, 0, samples.len())
 }

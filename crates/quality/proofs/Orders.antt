@@ -1,15 +1,15 @@
 -- The loop over the orders of a bin: it starts at an order whose predecessor is inside, takes one order a turn, and ends at the first multiple at or past the end. Assumes nothing.
 use mathlib.Core.Path.{_≡_, refl, sym, ap, _∙_, subst}
 use mathlib.Core.List.{List}
-use Prim.Native.Nat.{ℕ, suc, _+_, _-_, _*_, _≤_, _<_}
-use native.Mathlib.Nat.{le-trans, le-of-eq, lt-of-le-of-lt, mul-suc, mul-add, one-mul, mul-le-mul-left, mul-le-mul-right}
+use Prim.Native.Nat.{ℕ, zero, suc, _+_, _-_, _*_, _≤_, _<_}
+use native.Mathlib.Nat.{le-trans, le-of-eq, lt-of-le-of-lt, add-zero, mul-suc, mul-add, one-mul, mul-le-mul-left, mul-le-mul-right}
 use native.Mathlib.Omega.{arith}
 use lib.ListN.{length}
 use lib.Ieee.{Float, binary64, add}
 use Rattle.laws.specs.Harmonics.{squareOf, lastOrder}
 use Rattle.laws.specs.Literals.{zero64}
 use Rattle.laws.proofs.Harmonics.{none-yet, one-more, all-orders, last-inside}
-use Rattle.quality.specs.Powers.{magnitudeIn, powerIn, Inside, Summed}
+use Rattle.quality.specs.Powers.{magnitudeIn, powerIn, Inside, Summed, withSquares}
 
 -- ---- the places that a bin below n reaches
 
@@ -32,6 +32,13 @@ fourth n b h i = ap (λ (x : ℕ). b * x) (go h (i .order)) ∙ mul-add b (h - 1
 
 pub up-to-fourth : (n b h o : ℕ) → b * (h + 3) < n → o ≤ h + 3 → b * o < n
 up-to-fourth n b h o p l = lt-of-le-of-lt (mul-le-mul-left b l) p
+
+-- four orders on, where the last of them is inside
+pub inside-four : (n b h : ℕ) → Inside n b h → b * (h + 3) < n → Inside n b (h + 4)
+inside-four n b h i l = record { places = i .places; bin = i .bin; end = i .end; order = omega arith; before = subst (λ (x : ℕ). b * x < n) (go h) l }
+  where
+    go : (x : ℕ) → x + 3 ≡ x + 4 - 1
+    go x = omega arith
 
 -- ---- the sum
 module _ (s : List Float) (b first : ℕ) where
@@ -69,6 +76,22 @@ module _ (s : List Float) (b first : ℕ) where
     where
       same : (i j : ℕ) {x : Float} → i ≡ j → Summed s b first x i → Summed s b first x j
       same i j {x} e = subst (λ (o : ℕ). Summed s b first x o) e
+
+  -- where the bin is 1, the places that follow
+  pub summed-places : (h k : ℕ) {t : Float} → b ≡ 1 → Summed s b first t h → h + k ≤ length s → Summed s b first (withSquares s h t k) (h + k)
+  unfolding withSquares
+  summed-places h zero {t} e m l = subst (λ (o : ℕ). Summed s b first t o) (sym (add-zero h)) m
+  summed-places h (suc k) {t} e m l =
+      subst (λ (o : ℕ). Summed s b first (withSquares s h t (suc k)) o) (go h k) (summed-next (h + k) (summed-places h k e m (omega arith)) (at (omega arith)) (ap (magnitudeIn s) (sym (own (h + k)))) refl)
+    where
+      go : (h k : ℕ) → h + k + 1 ≡ h + suc k
+      go h k = omega arith
+
+      own : (i : ℕ) → b * i ≡ i
+      own i = ap (λ (x : ℕ). x * i) e ∙ one-mul i
+
+      at : h + k < length s → b * (h + k) < length s
+      at g = subst (λ (x : ℕ). x < length s) (sym (own (h + k))) g
 
   -- the first multiple at or past the end: the order before it is the last inside
   pub summed-all : (h : ℕ) {t : Float} → Summed s b first t h → length s ≤ b * h → t ≡ powerIn s b first

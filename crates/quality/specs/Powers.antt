@@ -1,11 +1,11 @@
 -- Sums of squares over the multiples of a bin of a spectrum. Definitions only.
-use Prim.Native.Nat.{ℕ, _-_, _*_, _≤_, _<_}
+use Prim.Native.Nat.{ℕ, zero, suc, _+_, _-_, _*_, _≤_, _<_}
 use mathlib.Core.Path.{_≡_}
 use mathlib.Core.List.{List}
 use lib.ListN.{length, getD}
-use lib.Ieee.{Float, nan}
+use lib.Ieee.{Float, nan, binary64, add}
 use Rattle.answers.specs.Numbers.{longest}
-use Rattle.laws.specs.Harmonics.{harmonicsOf, powerOf, lastOrder}
+use Rattle.laws.specs.Harmonics.{squareOf, harmonicsOf, powerOf, lastOrder}
 
 abbrev pub magnitudeIn : List Float → ℕ → Float
 magnitudeIn s k = getD s k nan
@@ -27,3 +27,12 @@ pub record Summed (s : List Float) (b first : ℕ) (t : Float) (h : ℕ) : Type 
   pub inside : Inside (length s) b h
   pub reached : first ≤ h
   pub sum : t ≡ harmonicsOf (magnitudeIn s) b first (h - first)
+
+-- so many places are added at a time where the bin is 1
+abbrev pub block : ℕ
+block = 64
+
+-- from t, the squares of so many places from a place on, in index order
+unfoldable pub withSquares : List Float → ℕ → Float → ℕ → Float
+withSquares s from t zero = t
+withSquares s from t (suc k) = add binary64 (withSquares s from t k) (squareOf (magnitudeIn s (from + k)))

@@ -1,10 +1,12 @@
 // Distortion, and the quotients behind the signal-to-noise figures, of a magnitude spectrum whose place 0 is the constant part.
 ghost use mathlib.Core.Path.{_≡_};
 ghost use mathlib.Core.Bool.{true, false};
+ghost use Prim.Native.Nat.{ℕ, _+_, _≤_};
 ghost use lib.Ieee.{ne};
 ghost use lib.ListN.{length};
 ghost use Rattle.laws.specs.Harmonics.{squareOf};
-ghost use Rattle.quality.specs.Powers.{powerIn, Inside, Summed};
+ghost use Rattle.laws.specs.Samples.{numbersIn};
+ghost use Rattle.quality.specs.Powers.{powerIn, Inside, Summed, block, withSquares};
 ghost use Rattle.quality.specs.Quality.{judged, thdOf, answerThd, enobOf, overNoise, snrOf, sinadOf, answerQuotient, spurAt, spurOf, sfdrOf, answerSfdr};
 use answers::LONGEST;
 use answers::Measured;
@@ -94,6 +96,9 @@ fn square(x: f32) -> f64
     m * m
 }
 
+// So many places are tested together and then added: enough for the compiler to test four at a time, and for the tests to run beside the sums.
+const BLOCK: usize = 64;
+
 // A sum so far, and the order that comes next.
 struct Tally {
     sum: f64,
@@ -128,13 +133,49 @@ fn square_of_number(x: f32) -> f64
     m * m
 }
 
-// The power of the multiples from this order on, four orders a turn, up to the last four inside or the first four that hold a NaN.
-fn power_of_numbers(spectrum: &[f32], bin: usize, first: usize) -> Tally
+// The sum with the squares of a block of numbers from a place on.
+fn with_block(spectrum: &[f32], from: usize, start: f64) -> f64
+    requires { ⌜ from + block ≤ length (now spectrum) ⌝ }
+    requires { ⌜ numbersIn (now spectrum) from block ≡ true ⌝ }
+    ensures { λ r. ⌜ r ≡ withSquares (now (spectrum .entry)) from start block ⌝ }
+{
+    let mut sum = start;
+    let mut k = 0usize;
+    while k < BLOCK {
+        sum = sum + square_of_number(spectrum[from + k]);
+        k += 1;
+    }
+    sum
+}
+
+// Of bin 1, whose multiples are all places from the first on: their power, a block a turn, up to the last whole block or the first that holds a NaN.
+// Of another bin, nothing yet.
+fn power_of_blocks(spectrum: &[f32], bin: usize, first: usize) -> Tally
     requires { ⌜ Inside (length (now spectrum)) bin first ⌝ }
     ensures { λ r. ⌜ Summed (now (spectrum .entry)) bin first (r .sum) (r .order) ⌝ }
 {
     let mut sum: f64 = 0.0;
     let mut h = first;
+    if bin != 1 {
+        return Tally { sum, order: h };
+    }
+    while h + BLOCK <= spectrum.len() {
+        if !number::parts::numbers_in(spectrum, h, BLOCK) {
+            break;
+        }
+        sum = with_block(spectrum, h, sum);
+        h += BLOCK;
+    }
+    Tally { sum, order: h }
+}
+
+// A sum so far and the multiples that follow, four orders a turn, up to the last four inside or the first four that hold a NaN.
+fn power_of_fours(spectrum: &[f32], bin: usize, start: Tally) -> Tally
+    requires { ⌜ Inside (length (now spectrum)) bin (start .order) ⌝ }
+    ensures { λ r. ⌜ ((first : ℕ) → Summed (now (spectrum .entry)) bin first (start .sum) (start .order) → Summed (now (spectrum .entry)) bin first (r .sum) (r .order)) ⌝ }
+{
+    let mut sum = start.sum;
+    let mut h = start.order;
     loop {
         // below five times the length, since the order before h was inside
         let last = bin * (h + 3);
@@ -162,7 +203,7 @@ fn power(spectrum: &[f32], bin: usize, first: usize) -> f64
     requires { ⌜ Inside (length (now spectrum)) bin first ⌝ }
     ensures { λ r. ⌜ r ≡ powerIn (now (spectrum .entry)) bin first ⌝ }
 {
-    let start = power_of_numbers(spectrum, bin, first);
+    let start = power_of_fours(spectrum, bin, power_of_blocks(spectrum, bin, first));
     let mut sum = start.sum;
     let mut h = start.order;
     loop {

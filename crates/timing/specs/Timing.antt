@@ -58,9 +58,12 @@ frequencyOf xs rate = frequencyAbout (meanOf (totalOf xs) (length xs)) xs rate
 
 -- ---- slew rate
 
--- the size of a step from one sample to the next, over the time dt between them; and the larger of m and that
+-- the size of a step from one sample to the next; that over the time dt between them; and the larger of m and that
+abbrev pub stepOf : Float → Float → Float
+stepOf prev curr = abs (sub binary32 curr prev)
+
 abbrev pub slopeOf : Float → Float → Float → Float
-slopeOf dt prev curr = div binary32 (abs (sub binary32 curr prev)) dt
+slopeOf dt prev curr = div binary32 (stepOf prev curr) dt
 
 unfoldable pub slewAt : Float → Float → ℕ → Float → Float → Float
 slewAt dt m i prev curr = higher m (slopeOf dt prev curr)

@@ -1,13 +1,14 @@
 // What frequency and slew rate are made of; the time figures are made of it too.
 ghost use mathlib.Core.Path.{_≡_};
-ghost use mathlib.Core.Bool.{cond};
+ghost use mathlib.Core.Bool.{true};
 ghost use Prim.Native.Nat.{_+_, _-_, _≤_, _<_};
 ghost use lib.ListN.{length};
 ghost use Rattle.answers.specs.Numbers.{longest};
-ghost use Rattle.laws.specs.Literals.{zero32};
-ghost use Rattle.laws.specs.Walks.{pairs};
-ghost use Rattle.timing.specs.Timing.{totalOf, meanOf, risesAt, crossingsOf, frequencyFrom, frequencyAbout, slopeOf, slewAt, steepestOf, slewOf};
+ghost use Rattle.laws.specs.Samples.{unsigned};
+ghost use Rattle.timing.specs.Timing.{totalOf, meanOf, risesAt, crossingsOf, frequencyFrom, frequencyAbout, stepOf, steepestOf, slewOf};
+ghost use Rattle.timing.specs.Steps.{NextAbove};
 use number::parts::counted;
+use number::parts::tallied;
 
 // The sum of the samples, in the order of the index.
 pub fn total(samples: &[f32]) -> f64
@@ -42,14 +43,6 @@ fn rises(mean: f32, prev: f32, curr: f32) -> bool
     ensures { λ r. ⌜ r ≡ risesAt mean prev curr ⌝ }
 {
     prev - mean < 0.0 && curr - mean >= 0.0
-}
-
-// One more where the test holds.
-pub fn tallied(n: u32, holds: bool) -> u32
-    requires { ⌜ n < longest ⌝ }
-    ensures { λ r. ⌜ r ≡ cond holds (n + 1) n ⌝ }
-{
-    if holds { n + 1 } else { n }
 }
 
 // How many rising crossings of this mean there are. (The places are found apart: so the compiler takes four samples at a time here.)
@@ -123,21 +116,21 @@ pub fn frequency(samples: &[f32], mean: f32, rate: f32) -> f32
     frequency_from(s, rate)
 }
 
-// The slew rate from one sample to the next, dt apart.
-fn slope(dt: f32, prev: f32, curr: f32) -> f32
-    ensures { λ r. ⌜ r ≡ slopeOf dt prev curr ⌝ }
+// The size of the step from one sample to the next.
+fn step(prev: f32, curr: f32) -> f32
+    ensures { λ r. ⌜ r ≡ stepOf prev curr ⌝ }
 {
-    number::abs32(curr - prev) / dt
+    number::abs32(curr - prev)
 }
 
-// The next place from here on that is steeper than m, or the end. (A search: no slew rate waits for the one before it.)
-fn next_steeper(samples: &[f32], dt: f32, m: f32, from: usize) -> usize
-    requires { ⌜ (1 ≤ from) × (from ≤ length (now samples)) × (m ≡ pairs (slewAt dt) zero32 (now samples) (from - 1)) ⌝ }
-    ensures { λ r. ⌜ (from ≤ r) × (r ≤ length (now (samples .entry))) × (m ≡ pairs (slewAt dt) zero32 (now (samples .entry)) (r - 1)) ⌝ }
+// The next place from here on whose step is above w, or the end. (A search: no step waits for the one before it, and none is divided.)
+fn next_above(samples: &[f32], w: f32, from: usize) -> usize
+    requires { ⌜ (1 ≤ from) × (from - 1 ≤ length (now samples) - 1) ⌝ }
+    ensures { λ r. ⌜ NextAbove (now (samples .entry)) w from r ⌝ }
 {
     let mut i = from;
     while i < samples.len() {
-        if slope(dt, samples[i - 1], samples[i]) > m {
+        if step(samples[i - 1], samples[i]) > w {
             return i;
         }
         i += 1;
@@ -145,15 +138,17 @@ fn next_steeper(samples: &[f32], dt: f32, m: f32, from: usize) -> usize
     i
 }
 
-// The largest slew rate over all neighbours, dt apart.
+// The largest slew rate over all neighbours, dt apart: only a step above all before it can be steeper.
 fn steepest(samples: &[f32], dt: f32) -> f32
+    requires { ⌜ unsigned dt ≡ true ⌝ }
     ensures { λ r. ⌜ r ≡ steepestOf dt (now (samples .entry)) ⌝ }
 {
     let mut m: f32 = 0.0;
-    let mut i = 1usize;
+    let mut i = next_above(samples, 0.0, 1);
     while i < samples.len() {
-        m = number::parts::raised(m, slope(dt, samples[i - 1], samples[i]));
-        i = next_steeper(samples, dt, m, i + 1);
+        let w = step(samples[i - 1], samples[i]);
+        m = number::parts::raised(m, w / dt);
+        i = next_above(samples, w, i + 1);
     }
     m
 }

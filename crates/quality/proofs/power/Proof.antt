@@ -15,11 +15,14 @@ Inv-loop spectrum bin first sum₀ h₀ sum h = Summed spectrum bin first sum h
 abbrev μ-loop : tie.MeasureT-loop
 μ-loop spectrum bin first sum₀ h₀ sum h = length spectrum - h
 
-power-of-numbers-requires : tie.Need-power-of-numbers-requires Inv-loop μ-loop
-power-of-numbers-requires c κs = search needs
+power-of-blocks-requires : tie.Need-power-of-blocks-requires Inv-loop μ-loop
+power-of-blocks-requires c κs = search needs
+
+power-of-fours-requires : tie.Need-power-of-fours-requires Inv-loop μ-loop
+power-of-fours-requires c κs = c .power-of-blocks .ensures .inside
 
 loop-holds : tie.Need-loop-holds Inv-loop μ-loop
-loop-holds c = c .power-of-numbers .ensures
+loop-holds c = c .power-of-fours .ensures _ (c .before .power-of-blocks .ensures)
 
 mul-place : tie.Need-mul-place Inv-loop μ-loop
 mul-place c =
@@ -62,7 +65,8 @@ power-spec =
     (tie.spec
     Inv-loop
     μ-loop
-    power-of-numbers-requires
+    power-of-blocks-requires
+    power-of-fours-requires
     loop-holds
     mul-place
     mul-square

@@ -1,6 +1,7 @@
 -- `timing::parts::slew` meets its contract. Assumes nothing.
 use borrow.Author.Needs.{needs}
 use Rattle.timing.specs.Timing.{slewOf}
+use Rattle.timing.proofs.Steepness.{time-unsigned}
 use Rattle.timing.proofs.parts.slew.Statement.{statement}
 use Rattle.timing.proofs.parts.slew.Tie as tie
 
@@ -9,7 +10,7 @@ unfolding slewOf
 returns c = rw (c .if1 .taken)
 
 steepest-requires : tie.Need-steepest-requires
-steepest-requires c κs = search needs
+steepest-requires c κs = time-unsigned _ (c .if1 .left)
 
 returns-2 : tie.Need-returns-2
 unfolding slewOf

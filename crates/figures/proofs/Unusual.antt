@@ -1,6 +1,8 @@
 -- What samples that are no numbers do to the figures, from the definitions: one NaN among any samples, and nothing but NaN. Assumes nothing.
--- (What one infinity does is computed in Shown.antt.)
-use Prim.Native.Nat.{ℕ, zero, suc, _+_, _-_}
+-- (What one infinity does is computed in specs/Shown.antt.)
+use Prim.Native.Nat.{ℕ, zero, suc, _+_, _-_, _<_}
+use native.Mathlib.Nat.{zero-lt-suc}
+use native.Mathlib.Omega.{arith}
 use mathlib.Core.Path.{_≡_, refl, sym, ap, _∙_}
 use mathlib.Core.Bool.{Bool, true, false, cond, _&&_}
 use mathlib.Core.List.{List, [], _∷_, _++_}
@@ -19,6 +21,7 @@ use Rattle.figures.specs.Levels.{maxOf, minOf, adding, sumOf, square, aw
 use Rattle.figures.specs.Duty.{millionth, near, isHigh, tally, highsOf}
 use Rattle.figures.specs.Edges.{noEdge, riseBegins, riseCounts, fallBegins, fallCounts, edgeAt, edgesOf}
 use Rattle.figures.specs.Ratios.{ratioOf, crestOf, periodOf, excessOf}
+use Rattle.figures.proofs.NanSums.{by-then}
 use Rattle.figures.specs.Figures.{peakToPeakOf, positivePeakOf, negativePeakOf, crestFactorOf, formFactorOf, hertzOf, slewRateOf, overshootOf, undershootOf}
 
 and-false : (b : Bool) → (b && false) ≡ false
@@ -37,22 +40,24 @@ module _ {A : Type 0} (f : A → Float → A) where
   left-out h a [] ys = over-front a nan ys (length ys) ∙ ap (λ (t : A). over f t ys (length ys)) (h a)
   left-out h a (x ∷ xs) ys = over-front a x (xs ++ nan ∷ ys) _ ∙ (left-out h (f a x) xs ys ∙ sym (over-front a x (xs ++ ys) _))
 
--- an f64 sum that meets a NaN is a NaN
-module _ (f : Float → Float) (h : f nan ≡ nan) where
-  stays : (xs : List Float) (k : ℕ) → over (adding f) nan xs k ≡ nan
-  unfolding over
-  stays xs zero = refl
-  stays xs (suc k) = ap (λ (t : Float). add binary64 t (f (getD xs k nan))) (stays xs k) ∙ nan-add binary64 _
-
-  pub sum-nan : (a : Float) (xs ys : List Float) → over (adding f) a (xs ++ nan ∷ ys) (length (xs ++ nan ∷ ys)) ≡ nan
-  sum-nan a [] ys =
-      over-front (adding f) a nan ys (length ys)
-      ∙ (ap (λ (t : Float). over (adding f) (add binary64 a t) ys (length ys)) h ∙ (ap (λ (t : Float). over (adding f) t ys (length ys)) (add-nan binary64 a) ∙ stays ys (length ys)))
-  sum-nan a (x ∷ xs) ys = over-front (adding f) a x (xs ++ nan ∷ ys) _ ∙ sum-nan (adding f a x) xs ys
-
 -- ---- one NaN among any samples: xs before it, ys after it
 abbrev pub withNan : List Float → List Float → List Float
 withNan xs ys = xs ++ nan ∷ ys
+
+nan-at : (xs ys : List Float) → getD (withNan xs ys) (length xs) nan ≡ nan
+nan-at [] ys = refl
+nan-at (x ∷ xs) ys = nan-at xs ys
+
+nan-inside : (xs ys : List Float) → length xs < length (withNan xs ys)
+nan-inside [] ys = zero-lt-suc (length ys)
+nan-inside (x ∷ xs) ys = grown (nan-inside xs ys)
+  where
+    grown : {a b : ℕ} → a < b → suc a < suc b
+    grown h = omega arith
+
+-- an f64 sum that meets it is a NaN
+sum-nan : (f : Float → Float) → f nan ≡ nan → (xs ys : List Float) → over (adding f) zero64 (withNan xs ys) (length (withNan xs ys)) ≡ nan
+sum-nan f h xs ys = by-then f (withNan xs ys) (length xs) (ap f (nan-at xs ys) ∙ h) (length (withNan xs ys)) (nan-inside xs ys)
 
 module _ (xs ys : List Float) where
   -- extremes, and the count of high samples, are those of the others
@@ -78,11 +83,11 @@ module _ (xs ys : List Float) where
   -- the means and RMS values are NaN
   pub nan-average : averageOf (withNan xs ys) ≡ nan
   unfolding averageOf totalOf meanOf div narrow
-  nan-average = ap (λ (t : Float). meanOf t (length (withNan xs ys))) (sum-nan (λ (x : Float). x) refl zero64 xs ys)
+  nan-average = ap (λ (t : Float). meanOf t (length (withNan xs ys))) (sum-nan (λ (x : Float). x) refl xs ys)
 
   mean-nan : (f : Float → Float) → f nan ≡ nan → meanOf (sumOf f (withNan xs ys)) (length (withNan xs ys)) ≡ nan
   unfolding sumOf meanOf div narrow
-  mean-nan f h = ap (λ (t : Float). meanOf t (length (withNan xs ys))) (sum-nan f h zero64 xs ys)
+  mean-nan f h = ap (λ (t : Float). meanOf t (length (withNan xs ys))) (sum-nan f h xs ys)
 
   square-nan : square nan ≡ nan
   unfolding mul

@@ -1,4 +1,4 @@
--- `quality::power_of_numbers` meets its contract. The loop's invariant: the sum is that of the orders before h. The measure is what is left of the length. Assumes nothing.
+-- `quality::power_of_fours` meets its contract. The loop's invariant: where the sum at the start was that of the orders before, so it is now. The measure is what is left of the length. Assumes nothing.
 use mathlib.Core.Path.{_≡_, refl}
 use mathlib.Core.Bool.{Bool, true, false, not}
 use Prim.Native.Nat.{ℕ, _+_, _-_, _*_, _≤_, _<_}
@@ -6,30 +6,31 @@ use native.Mathlib.Omega.{arith}
 use borrow.Author.Needs.{needs}
 use denote.Ref.{now}
 use lib.ListN.{length}
-use Rattle.quality.specs.Powers.{Summed}
-use Rattle.quality.proofs.Orders.{order-le, fourth, up-to-fourth, summed-none, summed-four}
-use Rattle.quality.proofs.power_of_numbers.Statement.{statement}
-use Rattle.quality.proofs.power_of_numbers.Tie as tie
+use borrow.Author.Tests.{not-false}
+use Rattle.quality.specs.Powers.{Inside, Summed}
+use Rattle.quality.proofs.Orders.{order-le, fourth, up-to-fourth, inside-four, summed-four}
+use Rattle.quality.proofs.power_of_fours.Statement.{statement}
+use Rattle.quality.proofs.power_of_fours.Tie as tie
 
 abbrev Inv-loop : tie.InvT-loop
-Inv-loop spectrum bin first sum₀ h₀ sum h = Summed spectrum bin first sum h
+Inv-loop spectrum bin start-sum start-order sum h = Inside (length spectrum) bin h × ((first : ℕ) → Summed spectrum bin first start-sum start-order → Summed spectrum bin first sum h)
 
 abbrev μ-loop : tie.MeasureT-loop
-μ-loop spectrum bin first sum₀ h₀ sum h = length spectrum - h
+μ-loop spectrum bin start-sum start-order sum h = length spectrum - h
 
 loop-holds : tie.Need-loop-holds Inv-loop μ-loop
-loop-holds c = summed-none _ _ _ (c .before .pre)
+loop-holds c = (c .before .pre, λ first m. m)
 
 -- ---- the four places
 add-last : tie.Need-add-last Inv-loop μ-loop
 add-last c =
-    let i = c .loop .inv .inside in
+    let i = c .loop .inv .0 in
     let o = order-le _ (c .loop .h - 1) (i .bin) in
     omega (arith, i .places, i .before)
 
 mul-last : tie.Need-mul-last Inv-loop μ-loop
 mul-last c =
-    let i = c .loop .inv .inside in
+    let i = c .loop .inv .0 in
     let m = fourth _ _ _ i in
     omega (arith, i .places, i .end, i .before)
 
@@ -39,7 +40,7 @@ spot c o l = up-to-fourth _ _ (c .before .loop .h) o (omega arith) l
 
 short : (c : tie.In-loop Inv-loop μ-loop) → (c .before .loop .h + 3 < length (now (c .before .before .before .args .spectrum))) × (length (now (c .before .before .before .args .spectrum)) ≤ 65536)
 short c =
-    let i = c .before .loop .inv .inside in
+    let i = c .before .loop .inv .0 in
     let o = order-le _ (c .before .loop .h + 3) (i .bin) in
     (omega arith, i .places)
 
@@ -95,24 +96,17 @@ shared-slice-read-d c = omega arith
 numbers-requires : tie.Need-numbers-requires Inv-loop μ-loop
 numbers-requires c κs = search needs
 
-held : (t : Bool) → not t ≡ false → t ≡ true
-held true e = refl
-held false e = absurd (never e)
-  where
-    never : true ≡ false → ⊥
-    never e = let z : _≡_ {A = ℕ} 0 1 = cc in omega arith
-
 square-of-number-requires : tie.Need-square-of-number-requires Inv-loop μ-loop
-square-of-number-requires c κs = let n = c .before .numbers in n .ensures (held (n .result) (c .if1 .left)) .0
+square-of-number-requires c κs = let n = c .before .numbers in n .ensures (not-false (n .result) (c .if1 .left)) .0
 
 square-of-number-requires-2 : tie.Need-square-of-number-requires-2 Inv-loop μ-loop
-square-of-number-requires-2 c κs = let n = c .before .before .numbers in n .ensures (held (n .result) (c .before .if1 .left)) .1
+square-of-number-requires-2 c κs = let n = c .before .before .numbers in n .ensures (not-false (n .result) (c .before .if1 .left)) .1
 
 square-of-number-requires-3 : tie.Need-square-of-number-requires-3 Inv-loop μ-loop
-square-of-number-requires-3 c κs = let n = c .before .before .before .numbers in n .ensures (held (n .result) (c .before .before .if1 .left)) .2
+square-of-number-requires-3 c κs = let n = c .before .before .before .numbers in n .ensures (not-false (n .result) (c .before .before .if1 .left)) .2
 
 square-of-number-requires-4 : tie.Need-square-of-number-requires-4 Inv-loop μ-loop
-square-of-number-requires-4 c κs = let n = c .before .before .before .before .numbers in n .ensures (held (n .result) (c .before .before .before .if1 .left)) .3
+square-of-number-requires-4 c κs = let n = c .before .before .before .before .numbers in n .ensures (not-false (n .result) (c .before .before .before .if1 .left)) .3
 
 -- ---- one turn
 add-h : tie.Need-add-h Inv-loop μ-loop
@@ -124,17 +118,20 @@ loop-less c = let s = short (c .before .before .before .before .before .before .
 loop-again : tie.Need-loop-again Inv-loop μ-loop
 loop-again c =
     let l = c .before .before .before .before .before .before .before .before .before .before .before .loop in
-    summed-four _ _ _ (l .h) (l .inv) (omega arith) (c .before .before .before .square-of-number .ensures) (c .before .before .square-of-number2 .ensures)
-    (c .before .square-of-number3 .ensures) (c .square-of-number4 .ensures)
+    let a = c .before .before .before .square-of-number .ensures in
+    let b = c .before .before .square-of-number2 .ensures in (
+      inside-four _ _ (l .h) (l .inv .0) (omega arith),
+      λ first m. summed-four _ _ first (l .h) (l .inv .1 first m) (omega arith) a b (c .before .square-of-number3 .ensures) (c .square-of-number4 .ensures),
+    )
 
 returns : tie.Need-returns Inv-loop μ-loop
-returns c = c .before .loop .inv
+returns c = c .before .loop .inv .1
 
 returns-2 : tie.Need-returns-2 Inv-loop μ-loop
-returns-2 c = c .before .before .before .before .before .before .before .loop .inv
+returns-2 c = c .before .before .before .before .before .before .before .loop .inv .1
 
-pub power-of-numbers-spec : {M : Type 1} → statement M
-power-of-numbers-spec =
+pub power-of-fours-spec : {M : Type 1} → statement M
+power-of-fours-spec =
     tie.close
     (tie.spec
     Inv-loop

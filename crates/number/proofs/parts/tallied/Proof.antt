@@ -1,7 +1,7 @@
--- `timing::parts::tallied` meets its contract. Assumes nothing.
+-- `number::parts::tallied` meets its contract. Assumes nothing.
 use borrow.Author.Needs.{needs}
-use Rattle.timing.proofs.parts.tallied.Statement.{statement}
-use Rattle.timing.proofs.parts.tallied.Tie as tie
+use Rattle.number.proofs.parts.tallied.Statement.{statement}
+use Rattle.number.proofs.parts.tallied.Tie as tie
 
 add-result : tie.Need-add-result
 add-result c = search needs
