@@ -167,10 +167,28 @@ fn small(checks: &Checks, log: &mut Log, random: &mut Random) {
     }
 }
 
+/// One NaN, infinity or zero at each place of spectra about as long as one, two, three and four blocks of the 64 places that the library tests together.
+fn blocks(checks: &Checks, log: &mut Log) {
+    let mut random = Random::new(64);
+    for n in (62..=68).chain(126..=132).chain(192..=194).chain(257..=259) {
+        let numbers = random.samples(Kind::Small, n);
+        for other in [f32::NAN, f32::INFINITY, 0.0] {
+            for place in 0..n {
+                let mut spectrum = numbers.clone();
+                spectrum[place] = other;
+                for bin in 1..=3 {
+                    checks.see(log, &spectrum, bin);
+                }
+            }
+        }
+    }
+}
+
 pub fn compare(rounds: u64, log: &mut Log) {
     let checks = Checks::open(log);
     let mut random = Random::new(6);
     small(&checks, log, &mut random);
+    blocks(&checks, log);
     for x in edges32() {
         checks.enob(log, x);
         // around 1e-12: the fundamental, and the only other bin
