@@ -1,14 +1,14 @@
 #!/usr/bin/env python3
 """Says why each must-fail edit was refused, after `rt must-fail` or `rt ci`: its label and the first error of its log.
-An edit after which a need of the proof has no name any more only made the proof unfit for the code and shows nothing: such a
-one is marked WEAK, and the program ends with status 1. An edit with a line '# refuses: F G ..' makes one wrong change in each of
+An edit after which a need of the proof has no name any more, or a place of the code is not where the proof looks for it, only made
+the proof unfit for the code and shows nothing: such a one is marked WEAK, and the program ends with status 1. An edit with a line '# refuses: F G ..' makes one wrong change in each of
 these functions, and is WEAK unless each of them was refused.
 usage: refusals.py [CRATE..]   in the repository's root"""
 import pathlib
 import re
 import sys
 
-WEAK = "that can be named from here"
+WEAK = re.compile(r"that can be named from here|\.Lts\.\S+` has no field")
 weak = 0
 for log in sorted(pathlib.Path("target/must-fail").glob("*/*/.log")):
     crate, label = log.parts[-3], log.parts[-2]
@@ -21,7 +21,7 @@ for log in sorted(pathlib.Path("target/must-fail").glob("*/*/.log")):
     # refused for itself, and not only because a function that it calls was
     own = r"^fn \S*::{0}: (?:not proved$|no proof: .*does not close)|/{0}/Proof\.antt:\d+:\d+: error: (?!.*was not admitted)"
     passed = [f for f in " ".join(named).split() if not re.search(own.format(f), text, re.M)]
-    mark = "WEAK" if WEAK in text or passed else "ok"
+    mark = "WEAK" if WEAK.search(text) or passed else "ok"
     weak += mark == "WEAK"
     where, why = errors[0] if errors else ("", "no error was found in the log")
     print(f"{mark:4} {crate}/{label}: {where}: {why[:160]}" + (f" NOT REFUSED: {' '.join(passed)}" if passed else ""))
