@@ -24,5 +24,6 @@ for name in snr sinad sfdr; do sed -n "/^pub fn compute_$name(/,/^}/p" ../docs/s
 cmp -s gen/cut.new gen/cut.rs || cp gen/cut.new gen/cut.rs
 rm gen/cut.new
 
-if [ -n "${here:-}" ]; then ./here.sh; else (cd .. && rt staticlib tilljingle && rt check report); fi
+if [ -n "${here:-}" ]; then ./here.sh; else (cd .. && rt staticlib tilljingle); fi
+(cd .. && rt check report)
 cargo build --release --offline
