@@ -7,13 +7,13 @@ use mathlib.Core.Path.{_≡_, refl, sym, ap, _∙_}
 use mathlib.Core.Bool.{Bool, true, false, cond, _&&_}
 use mathlib.Core.List.{List, [], _∷_, _++_}
 use lib.ListN.{length, getD}
-use lib.Ieee.{Float, nan, inf, binary32, binary64, add, sub, mul, div, neg, lt, le, ofBits}
+use lib.Ieee.{Float, nan, inf, binary32, add, sub, mul, div, neg, lt, le, ofBits}
 use Rattle.generator.specs.declared.Wave.{Wave}
 use Rattle.generator.specs.declared.Wave.the-variants.{DC, PWM, Triangular, Sawtooth}
 use Rattle.laws.specs.Literals.{zero32, zero64, count32}
 use Rattle.laws.specs.Samples.{higher, lower}
 use Rattle.laws.specs.Walks.{over, pairs}
-use Rattle.laws.proofs.NotNumber.{add-nan, nan-add, sub-nan, nan-sub, lt-nan, nan-lt, le-nan, nan-le}
+use Rattle.laws.proofs.NotNumber.{sub-nan, nan-sub, lt-nan, nan-lt, le-nan, nan-le}
 use Rattle.number.specs.Number.{narrow, root, abs}
 use Rattle.timing.specs.Timing.{totalOf, meanOf, risesAt, crossingAt, noCrossing, crossingsOf, frequencyFrom, frequencyAbout, slewAt, steepestOf, slewOf}
 use Rattle.figures.specs.declared.edges.Edges.{Edges}

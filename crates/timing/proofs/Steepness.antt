@@ -2,13 +2,12 @@
 use mathlib.Core.Path.{_≡_, refl, sym, ap, subst, _∙_}
 use mathlib.Core.Bool.{Bool, true, false, not, _&&_, _||_, cond}
 use mathlib.Core.List.{List}
-use Prim.Native.Nat.{ℕ, zero, suc, _+_, _-_, _*_, _≤_, _<_}
+use Prim.Native.Nat.{ℕ, zero, suc, _+_, _-_, _*_, _≤_}
 use native.Mathlib.Nat.{add-zero, zero-mul, zero-lt-suc, mul-pos}
 use native.Mathlib.Omega.{arith}
 use borrow.Author.Tests.{le-ltb, lt-ltb}
 use lib.Dec.{T, ltb, eqb}
 use lib.IntN.{pos}
-use lib.ListN.{length, getD}
 use lib.Ieee.{Float, nan, inf, fin, binary32, isNan, lt, le, eq, div, up, down, ofBits, ofFields, odd}
 use lib.Ieee.Fits.{up-pos}
 use Rattle.laws.specs.Literals.{zero32, one32}
@@ -19,8 +18,8 @@ use Rattle.laws.proofs.Zero.{null-div, lt-null}
 use Rattle.laws.proofs.NotNumber.{lt-nan}
 use Rattle.laws.proofs.Quotients.{div-unsigned, quotient-too}
 use Rattle.number.specs.Number.{abs}
-use Rattle.timing.specs.Timing.{slopeOf, slewAt}
-use Rattle.timing.specs.Steps.{stepAt, NextAbove}
+use Rattle.timing.specs.Timing.{slewAt}
+use Rattle.timing.specs.Steps.{NextAbove}
 
 size-unsigned : (x : Float) → T (unsigned (abs x))
 unfolding abs unsigned

@@ -1,6 +1,4 @@
 -- `quality::power_of_fours` meets its contract. The loop's invariant: where the sum at the start was that of the orders before, so it is now. The measure is what is left of the length. Assumes nothing.
-use mathlib.Core.Path.{_≡_, refl}
-use mathlib.Core.Bool.{Bool, true, false, not}
 use Prim.Native.Nat.{ℕ, _+_, _-_, _*_, _≤_, _<_}
 use native.Mathlib.Omega.{arith}
 use borrow.Author.Needs.{needs}

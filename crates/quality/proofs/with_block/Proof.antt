@@ -1,9 +1,8 @@
 -- `quality::with_block` meets its contract. The loop's invariant: the sum has the first k squares. The measure is what is left of the block. Assumes nothing.
-use mathlib.Core.Path.{_≡_, refl, ap, subst, _∙_}
+use mathlib.Core.Path.{_≡_, refl, ap, _∙_}
 use Prim.Native.Nat.{ℕ, suc, _+_, _-_, _≤_}
 use native.Mathlib.Omega.{arith}
 use borrow.Author.Needs.{needs}
-use denote.Ref.{now}
 use mathlib.Core.List.{List}
 use lib.Ieee.{Float, binary64, add}
 use Rattle.laws.specs.Harmonics.{squareOf}

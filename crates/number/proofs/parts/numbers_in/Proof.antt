@@ -5,9 +5,8 @@ use mathlib.Core.List.{List}
 use Prim.Native.Nat.{ℕ, suc, _+_, _-_, _≤_}
 use native.Mathlib.Omega.{arith}
 use borrow.Author.Needs.{needs}
-use denote.Ref.{now}
 use lib.Dec.{T, eqb, eqb·suc-suc, eqb→eq}
-use lib.ListN.{length, getD}
+use lib.ListN.{getD}
 use lib.Ieee.{Float, nan, eq, ne}
 use Rattle.laws.specs.Samples.{stillNumbers, numbersIn}
 use Rattle.laws.proofs.Numbers.{still-nan, still-number}

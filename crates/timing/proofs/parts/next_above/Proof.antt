@@ -1,6 +1,6 @@
 -- `timing::parts::next_above` meets its contract. The loop's invariant: no step before i is above w. Assumes nothing.
 use borrow.Author.Needs.{needs}
-use mathlib.Core.Path.{_≡_, sym, subst, _∙_}
+use mathlib.Core.Path.{_≡_, subst}
 use mathlib.Core.Bool.{false}
 use mathlib.Core.List.{List}
 use Prim.Native.Nat.{ℕ, _+_, _-_, _≤_, _<_}
@@ -9,7 +9,7 @@ use native.Mathlib.Omega.{arith}
 use lib.ListN.{length}
 use lib.Ieee.{Float, lt}
 use denote.Ref.{now}
-use Rattle.timing.specs.Steps.{stepAt, NextAbove}
+use Rattle.timing.specs.Steps.{stepAt}
 use Rattle.timing.proofs.parts.next_above.Statement.{statement}
 use Rattle.timing.proofs.parts.next_above.Tie as tie
 

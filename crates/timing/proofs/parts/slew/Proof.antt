@@ -1,5 +1,4 @@
 -- `timing::parts::slew` meets its contract. Assumes nothing.
-use borrow.Author.Needs.{needs}
 use Rattle.timing.specs.Timing.{slewOf}
 use Rattle.timing.proofs.Steepness.{time-unsigned}
 use Rattle.timing.proofs.parts.slew.Statement.{statement}
