@@ -1,8 +1,8 @@
 #!/usr/bin/env python3
 """Says why each must-fail edit was refused, after `rt must-fail` or `rt ci`: its label and the first error of its log.
-An edit after which a need of the proof has no name any more, or a place of the code is not where the proof looks for it, only made
-the proof unfit for the code and shows nothing: such a one is marked WEAK, and the program ends with status 1. An edit with a line '# refuses: F G ..' makes one wrong change in each of
-these functions, and is WEAK unless each of them was refused.
+An edit after which a need of the proof has no name any more, or a place of the code is not where the proof looks for it, only
+made the proof unfit for the code and shows nothing: such a one is marked WEAK, and the program ends with status 1. An edit with a
+line '# refuses: F G ..' makes one wrong change in each of these functions, and is WEAK unless each of them was refused.
 usage: refusals.py [CRATE..]   in the repository's root"""
 import pathlib
 import re
