@@ -1,5 +1,5 @@
 -- A comparison of a float with itself tells a NaN; and where a pass over all samples found none, each sample is a number. Assumes nothing.
-use mathlib.Core.Path.{_≡_, refl, sym, ap, ap₂, subst, _∙_}
+use mathlib.Core.Path.{_≡_, refl, sym, ap, subst, _∙_}
 use mathlib.Core.Bool.{Bool, true, false, not, _&&_}
 use mathlib.Core.List.{List}
 use Prim.Native.Nat.{ℕ, zero, suc, _+_, _<_}
@@ -10,8 +10,8 @@ use lib.Dec.{T}
 use lib.ListN.{length, getD}
 use lib.Ieee.{Float, nan, inf, fin, isNan, ne}
 use lib.Ieee.Compare.{differs-from-itself, nan-differs}
-use Rattle.laws.specs.Walks.{over}
 use Rattle.laws.specs.Samples.{stillNumbers, allNumbers, numbersIn}
+use Rattle.laws.proofs.Turn.{over-from}
 
 -- what `x != x` says
 pub is-nan : (x : Float) → ne x x ≡ true → x ≡ nan
@@ -54,28 +54,25 @@ both true true e = (refl, tt)
 both true false e = absurd (subst T (sym e) tt)
 both false u e = absurd (subst T (sym e) tt)
 
+-- one sample more
+pub numbers-in-next : (xs : List Float) (from k : ℕ) → numbersIn xs from (suc k) ≡ stillNumbers (numbersIn xs from k) (getD xs (from + k) nan)
+unfolding numbersIn
+numbers-in-next xs from k = over-from stillNumbers true xs from k
+
 -- where some samples were found to be numbers, each of them is
 pub numbers-in-at : (xs : List Float) (from n k : ℕ) → numbersIn xs from n ≡ true → k < n → T (not (isNan (getD xs (from + k) nan)))
-unfolding numbersIn stillNumbers
+unfolding stillNumbers
 numbers-in-at xs from zero k e h = absurd (never k h)
   where
     never : (k : ℕ) → k < 0 → ⊥
     never k h = omega arith
 numbers-in-at xs from (suc n) k e h =
-    let b = both (numbersIn xs from n) (not (isNan (getD xs (from + n) nan))) e in
+    let b = both (numbersIn xs from n) (not (isNan (getD xs (from + n) nan))) (sym (numbers-in-next xs from n) ∙ e) in
     elim (decLe n k) [
       | yes l ↦ let m : k ≡ n = omega arith in subst (λ (i : ℕ). T (not (isNan (getD xs (from + i) nan)))) (sym m) (b .1)
       | no l ↦ numbers-in-at xs from n k (b .0) (omega arith)
     ]
 
--- all samples are those from place 0 on
-pub numbers-in-all : (xs : List Float) → numbersIn xs 0 (length xs) ≡ allNumbers xs
-unfolding allNumbers numbersIn over
-numbers-in-all xs = go (length xs)
-  where
-    go : (k : ℕ) → numbersIn xs 0 k ≡ over stillNumbers true xs k
-    go zero = refl
-    go (suc k) = ap₂ stillNumbers (go k) (ap (λ (i : ℕ). getD xs i nan) (zero-add k))
-
 pub all-numbers-at : (xs : List Float) (k : ℕ) → allNumbers xs ≡ true → k < length xs → T (not (isNan (getD xs k nan)))
-all-numbers-at xs k e h = subst (λ (i : ℕ). T (not (isNan (getD xs i nan)))) (zero-add k) (numbers-in-at xs 0 (length xs) k (numbers-in-all xs ∙ e) h)
+unfolding allNumbers
+all-numbers-at xs k e h = subst (λ (i : ℕ). T (not (isNan (getD xs i nan)))) (zero-add k) (numbers-in-at xs 0 (length xs) k e h)

@@ -1,8 +1,8 @@
 -- What several figures ask of samples one by one. Definitions only.
 use mathlib.Core.Bool.{Bool, true, cond, _&&_, not}
 use mathlib.Core.List.{List}
-use Prim.Native.Nat.{ℕ, zero, suc, _+_}
-use lib.ListN.{length, getD}
+use Prim.Native.Nat.{ℕ}
+use lib.ListN.{length, drop}
 use lib.Ieee.{Float, nan, inf, fin, lt, isNan}
 use Rattle.laws.specs.Walks.{over}
 
@@ -19,14 +19,13 @@ unsigned nan = true
 unsigned (inf s) = not s
 unsigned (fin s m e) = not s
 
--- no sample is a NaN
+-- none of so many samples from a place on is a NaN
 unfoldable pub stillNumbers : Bool → Float → Bool
 stillNumbers t x = t && not (isNan x)
 
-unfoldable pub allNumbers : List Float → Bool
-allNumbers xs = over stillNumbers true xs (length xs)
-
--- of so many samples from a place on
 unfoldable pub numbersIn : List Float → ℕ → ℕ → Bool
-numbersIn xs from zero = true
-numbersIn xs from (suc k) = stillNumbers (numbersIn xs from k) (getD xs (from + k) nan)
+numbersIn xs from count = over stillNumbers true (drop from xs) count
+
+-- no sample is a NaN
+unfoldable pub allNumbers : List Float → Bool
+allNumbers xs = numbersIn xs 0 (length xs)

@@ -11,7 +11,7 @@ use lib.Ieee.{Float, nan, inf, binary64, isNan, mul}
 use lib.Ieee.Positive.{above}
 use lib.Ieee.Scale.{finite}
 use Rattle.laws.specs.Walks.{over}
-use Rattle.laws.specs.Samples.{stillNumbers, allNumbers}
+use Rattle.laws.specs.Samples.{stillNumbers, numbersIn, allNumbers}
 use Rattle.laws.proofs.Zero.{Null}
 use Rattle.answers.specs.declared.Outcome.the-variants.{Done}
 use Rattle.answers.specs.Numbers.{longest}
@@ -43,7 +43,7 @@ module _ (xs : List Float) (j : ℕ) (e : getD xs j nan ≡ nan) where
       none false = refl
 
   found : j < length xs → allNumbers xs ≡ false
-  unfolding allNumbers
+  unfolding allNumbers numbersIn
   found h = by-then (length xs) h
 
 -- a capture that is taken, of at least one pair

@@ -7,7 +7,7 @@ use lib.Dec.{T}
 use lib.ListN.{length, getD}
 use lib.Ieee.{Float, nan, binary32, binary64, isNan, add, sub, mul, div, lt, ofBits}
 use Rattle.laws.specs.Walks.{over}
-use Rattle.laws.specs.Samples.{stillNumbers, allNumbers}
+use Rattle.laws.specs.Samples.{stillNumbers, numbersIn, allNumbers}
 use Rattle.laws.proofs.NotNumber.{tested-nan, add-nan, nan-add, mul-nan, nan-mul}
 use Rattle.number.specs.Number.{narrow, root}
 use Rattle.power.specs.Power.{sumTo, sumsTo, meanOf, activeOf, narrowedRoot, apparentOf, factorOf, aboveZero, reactiveOf, recordWith, recordOf, nanPower}
@@ -36,11 +36,11 @@ unfolding meanOf narrow div
 mean-nan n = refl
 
 pub nan-voltage : (v i : List Float) → allNumbers v ≡ false → recordOf (sumsTo v i (length v)) ≡ nanPower
-unfolding allNumbers recordOf activeOf apparentOf
+unfolding allNumbers numbersIn recordOf activeOf apparentOf
 nan-voltage v i e =
     rw (sum-nan v i (length v) e .0, sum-nan v v (length v) e .0, mean-nan (length v), root-nan (length v), nan-mul binary32 (narrowedRoot (meanOf (sumTo i i (length v)) (length v)))) both-nan
 
 pub nan-current : (v i : List Float) → length v ≡ length i → allNumbers i ≡ false → recordOf (sumsTo v i (length v)) ≡ nanPower
-unfolding allNumbers recordOf activeOf apparentOf
+unfolding allNumbers numbersIn recordOf activeOf apparentOf
 nan-current v i l e =
     rw (l, sum-nan i v (length i) e .1, sum-nan i i (length i) e .0, mean-nan (length i), root-nan (length i), mul-nan binary32 (narrowedRoot (meanOf (sumTo v v (length i)) (length i)))) both-nan

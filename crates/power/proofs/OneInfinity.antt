@@ -16,7 +16,7 @@ use lib.Ieee.Positive.{num, den}
 use lib.Ieee.Scale.{finite, overflow}
 use Rattle.laws.specs.Walks.{over}
 use Rattle.laws.proofs.NotFinite.{mul-beyond, beyond-mul}
-use Rattle.laws.specs.Samples.{stillNumbers, allNumbers}
+use Rattle.laws.specs.Samples.{stillNumbers, numbersIn, allNumbers}
 use Rattle.answers.specs.Numbers.{longest}
 use Rattle.power.specs.Power.{sumTo}
 use Rattle.power.proofs.Infinite.{unsigned, round-unsigned}
@@ -237,7 +237,7 @@ module _ (x y : List Float) (j : ℕ) (b : Bool) (at : getD x j nan ≡ inf b) w
       sample (fin s m e) h = refl
 
   pub one-numbers : FiniteBut x j (length x) → allNumbers x ≡ true
-  unfolding allNumbers over stillNumbers
+  unfolding allNumbers numbersIn over stillNumbers
   one-numbers p = go (length x) (le-refl (length x))
     where
       go : (n : ℕ) → n ≤ length x → over stillNumbers true x n ≡ true

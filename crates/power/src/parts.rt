@@ -1,7 +1,7 @@
 // How a call that reads two slices ends, and the record of a capture from its sums.
 ghost use mathlib.Core.Path.{_≡_};
 ghost use Prim.Native.Nat.{_≤_};
-ghost use Rattle.power.specs.Power.{narrowedRoot, factorOf, aboveZero, reactiveOf, recordOf, outcomeOf};
+ghost use Rattle.power.specs.Power.{factorOf, aboveZero, reactiveOf, recordOf, outcomeOf};
 ghost use Rattle.answers.specs.Numbers.{longest};
 use crate::Power;
 use answers::LONGEST;
@@ -31,13 +31,6 @@ pub struct Sums {
     pub count: usize,
 }
 
-// The root, narrowed after it.
-fn narrowed_root(x: f64) -> f32
-    ensures { λ r. ⌜ r ≡ narrowedRoot x ⌝ }
-{
-    number::sqrt64_narrowed(x)
-}
-
 // The power factor; 0 where s is at most 1e-12, or is not a number.
 fn factor(p: f32, s: f32) -> f32
     ensures { λ r. ⌜ r ≡ factorOf p s ⌝ }
@@ -58,7 +51,7 @@ fn reactive(p: f32, s: f32) -> f32
 {
     let p64 = std::num::f32_to_f64_with_nan(p);
     let s64 = std::num::f32_to_f64_with_nan(s);
-    narrowed_root(above_zero(s64 * s64 - p64 * p64))
+    number::sqrt64_narrowed(above_zero(s64 * s64 - p64 * p64))
 }
 
 // The record of a capture with these sums.
@@ -68,7 +61,7 @@ pub fn of_sums(t: Sums) -> Power
 {
     let n = t.count as f64;
     let p = number::narrow(t.vi / n);
-    let s = narrowed_root(t.vv / n) * narrowed_root(t.ii / n);
+    let s = number::sqrt64_narrowed(t.vv / n) * number::sqrt64_narrowed(t.ii / n);
     let q = reactive(p, s);
     let pf = factor(p, s);
     Power { p, q, s, pf }

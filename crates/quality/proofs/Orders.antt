@@ -8,6 +8,8 @@ use lib.ListN.{length}
 use lib.Ieee.{Float, binary64, add}
 use Rattle.laws.specs.Harmonics.{squareOf, lastOrder}
 use Rattle.laws.specs.Literals.{zero64}
+use Rattle.laws.specs.Walks.{over}
+use Rattle.laws.proofs.Turn.{over-from}
 use Rattle.laws.proofs.Harmonics.{none-yet, one-more, all-orders, last-inside}
 use Rattle.quality.specs.Powers.{magnitudeIn, powerIn, Inside, Summed, withSquares}
 
@@ -41,6 +43,12 @@ inside-four n b h i l = record { places = i .places; bin = i .bin; end = i .end;
     go x = omega arith
 
 -- ---- the sum
+
+-- the square of one place more
+pub squares-next : (s : List Float) (from : ℕ) (t : Float) (k : ℕ) → withSquares s from t (suc k) ≡ add binary64 (withSquares s from t k) (squareOf (magnitudeIn s (from + k)))
+unfolding withSquares
+squares-next s from t k = over-from _ t s from k
+
 module _ (s : List Float) (b first : ℕ) where
   pub summed-none : Inside (length s) b first → Summed s b first zero64 first
   summed-none i = record { inside = i; reached = omega arith; sum = none-yet (magnitudeIn s) b first }
@@ -79,10 +87,12 @@ module _ (s : List Float) (b first : ℕ) where
 
   -- where the bin is 1, the places that follow
   pub summed-places : (h k : ℕ) {t : Float} → b ≡ 1 → Summed s b first t h → h + k ≤ length s → Summed s b first (withSquares s h t k) (h + k)
-  unfolding withSquares
+  unfolding withSquares over
   summed-places h zero {t} e m l = subst (λ (o : ℕ). Summed s b first t o) (sym (add-zero h)) m
   summed-places h (suc k) {t} e m l =
-      subst (λ (o : ℕ). Summed s b first (withSquares s h t (suc k)) o) (go h k) (summed-next (h + k) (summed-places h k e m (omega arith)) (at (omega arith)) (ap (magnitudeIn s) (sym (own (h + k)))) refl)
+      subst (Summed s b first (withSquares s h t (suc k))) (go h k)
+      (subst (λ (u : Float). Summed s b first u (h + k + 1)) (sym (squares-next s h t k))
+      (summed-next (h + k) (summed-places h k e m (omega arith)) (at (omega arith)) (ap (magnitudeIn s) (sym (own (h + k)))) refl))
     where
       go : (h k : ℕ) → h + k + 1 ≡ h + suc k
       go h k = omega arith

@@ -1,10 +1,11 @@
 -- Sums of squares over the multiples of a bin of a spectrum. Definitions only.
-use Prim.Native.Nat.{ℕ, zero, suc, _+_, _-_, _*_, _≤_, _<_}
+use Prim.Native.Nat.{ℕ, _-_, _*_, _≤_, _<_}
 use mathlib.Core.Path.{_≡_}
 use mathlib.Core.List.{List}
-use lib.ListN.{length, getD}
+use lib.ListN.{length, drop, getD}
 use lib.Ieee.{Float, nan, binary64, add}
 use Rattle.answers.specs.Numbers.{longest}
+use Rattle.laws.specs.Walks.{over}
 use Rattle.laws.specs.Harmonics.{squareOf, harmonicsOf, powerOf, lastOrder}
 
 abbrev pub magnitudeIn : List Float → ℕ → Float
@@ -34,5 +35,4 @@ block = 64
 
 -- from t, the squares of so many places from a place on, in index order
 unfoldable pub withSquares : List Float → ℕ → Float → ℕ → Float
-withSquares s from t zero = t
-withSquares s from t (suc k) = add binary64 (withSquares s from t k) (squareOf (magnitudeIn s (from + k)))
+withSquares s from t count = over (λ (u x : Float). add binary64 u (squareOf x)) t (drop from s) count

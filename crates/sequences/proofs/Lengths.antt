@@ -4,11 +4,12 @@ use mathlib.Core.Path.{_≡_, refl, _∙_, ap}
 use mathlib.Core.Bool.{Bool, true, false, cond}
 use mathlib.Core.List.{List}
 use Prim.Native.Nat.{ℕ}
+use lib.Dec.{eqb}
 use lib.Ieee.{Float}
 use lib.ListN.{length}
-use Rattle.answers.specs.Numbers.{tooLong}
+use Rattle.answers.specs.Numbers.{numberOf, tooLong}
 use Rattle.answers.specs.Written.{written}
-use Rattle.answers.specs.declared.Outcome.the-variants.{Done, TooLong, OffGrid}
+use Rattle.answers.specs.declared.Outcome.the-variants.{Done, TooLong}
 use Rattle.laws.specs.Literals.{zero32}
 use Rattle.laws.specs.Filled.{filled}
 use Rattle.laws.proofs.Filling.{filled-length}
@@ -16,7 +17,7 @@ use Rattle.generator.specs.declared.Wave.{Wave}
 use Rattle.generator.specs.declared.Shape.{Shape}
 use Rattle.generator.specs.Sample.{generated, sampleAt}
 use Rattle.port.specs.declared.Reading.{Reading}
-use Rattle.spectrum.specs.Grid.{onGrid}
+use Rattle.spectrum.specs.Spectrum.{outcomeOf, ifDone}
 use Rattle.signal.specs.declared.State.{State}
 use Rattle.signal.specs.Calls.{Left, left, answer, judged, made, remade, newOf, phaseSet, dutySet, portOf, resetOf}
 
@@ -29,13 +30,12 @@ generated-length s xs = go (tooLong (length xs))
     go false = filled-length (sampleAt s (length xs)) (length xs) xs
 
 judged-length : (s : State) (xs : List Float) (done : Left) → length (done .places) ≡ length xs → length (judged s xs done .places) ≡ length xs
-unfolding judged
-judged-length s xs done e = go (tooLong (length xs)) (onGrid (length xs))
+unfolding judged ifDone
+judged-length s xs done e = go (eqb (numberOf (outcomeOf (length xs) false)) 0)
   where
-    go : (b c : Bool) → length (cond b (left (answer TooLong s) xs) (cond c done (left (answer OffGrid s) xs)) .places) ≡ length xs
-    go true c = refl
-    go false true = e
-    go false false = refl
+    go : (b : Bool) → length (cond b done (left (answer (outcomeOf (length xs) false) s) xs) .places) ≡ length xs
+    go true = e
+    go false = refl
 
 remade-length : (top : ℕ) (earlier next : State) (xs : List Float) → length (remade top earlier next xs .places) ≡ length xs
 unfolding remade made

@@ -1,6 +1,6 @@
--- How a port made over a refused or a taken length ends. Assumes nothing.
+-- How a call over a refused or a taken length ends. Assumes nothing.
 use mathlib.Core.Path.{_≡_, sym, ap, _∙_}
-use mathlib.Core.Bool.{Bool, true, false, cond}
+use mathlib.Core.Bool.{Bool, true, false, not}
 use mathlib.Core.List.{List}
 use Prim.Native.Nat.{ℕ}
 use native.Mathlib.Omega.{arith}
@@ -8,44 +8,64 @@ use lib.ListN.{length}
 use lib.Ieee.{Float}
 use Rattle.laws.specs.Literals.{zero32}
 use Rattle.answers.specs.declared.Outcome.{Outcome}
-use Rattle.answers.specs.declared.Outcome.the-variants.{Done, TooLong, OffGrid}
-use Rattle.answers.specs.Numbers.{numberOf, tooLong}
+use Rattle.answers.specs.declared.Outcome.the-variants.{Done, OutputShort, TooLong, OffGrid}
+use Rattle.answers.specs.Numbers.{numberOf, tooLong, refuse}
 use Rattle.generator.specs.declared.Wave.the-variants.{DC}
 use Rattle.generator.specs.Sample.{generated}
 use Rattle.port.specs.declared.Reading.{Reading}
 use Rattle.spectrum.specs.Grid.{onGrid}
+use Rattle.spectrum.specs.Spectrum.{outcomeOf, ifDone}
+use Rattle.spectrum.proofs.Ends.{kept, changed}
 use Rattle.signal.specs.declared.State.{State}
 use Rattle.signal.specs.declared.Answer.{Answer}
 use Rattle.signal.specs.State.{zeroState, fresh, measured, asPort}
 use Rattle.signal.specs.Calls.{Left, left, answer, judged, made, remade, portOf}
 
-abbrev outcomeOf : Left → Outcome
-outcomeOf l = l .answer .outcome
+module _ (s : State) (xs : List Float) (done : Left) (o : Outcome) (d : ℕ) (ended : o ≡ outcomeOf (length xs) false) (number : d ≡ numberOf o) where
+  judged-by : judged s xs done ≡ ifDone o done (left (answer o s) xs)
+  unfolding judged
+  judged-by = rw ended
+
+  pub refused : (d ≡ 0 → ⊥) → left (answer o s) xs ≡ judged s xs done
+  refused n = sym (judged-by ∙ kept o done (left (answer o s) xs) d number n)
+
+  pub taken : d ≡ 0 → judged s xs done ≡ done
+  taken z = judged-by ∙ changed o done (left (answer o s) xs) d number z
+
+-- ---- a port
+
+abbrev chain : Bool → Bool → Outcome
+chain long grid = refuse long TooLong (refuse (not grid) OffGrid (refuse false OutputShort Done))
+
+abbrev ended : Left → ℕ
+ended l = numberOf (l .answer .outcome)
 
 module _ (top : ℕ) (v c : Float) (f : Reading) (xs ys : List Float) (a : Answer) (d : ℕ) (number : d ≡ numberOf (a .outcome)) (h : left a ys ≡ remade top zeroState (fresh DC v zero32) xs) where
+  abbrev plain : State
+  plain = measured top (fresh DC v zero32) (generated (fresh DC v zero32 .shape) xs .places)
+
+  abbrev over : Outcome → State → Left
+  over o s = ifDone o (left (answer Done s) (generated (fresh DC v zero32 .shape) xs .places)) (left (answer o zeroState) xs)
+
   pub port-refused : (d ≡ 0 → ⊥) → left a ys ≡ portOf top v c f xs
-  unfolding remade judged made portOf
+  unfolding remade judged made portOf outcomeOf ifDone
   port-refused n = go (tooLong (length xs)) (onGrid (length xs)) h
     where
-      go : (b g : Bool)
-          → left a ys ≡ cond b (left (answer TooLong zeroState) xs) (cond g (left (answer Done (measured top (fresh DC v zero32) (generated (fresh DC v zero32 .shape) xs .places))) (generated (fresh DC v zero32 .shape) xs .places)) (left (answer OffGrid zeroState) xs))
-          → left a ys ≡ cond b (left (answer TooLong zeroState) xs) (cond g (left (answer Done (asPort (measured top (fresh DC v zero32) (generated (fresh DC v zero32 .shape) xs .places)) v c f)) (generated (fresh DC v zero32 .shape) xs .places)) (left (answer OffGrid zeroState) xs))
+      go : (long grid : Bool) → left a ys ≡ over (chain long grid) plain → left a ys ≡ over (chain long grid) (asPort plain v c f)
       go true g e = e
       go false false e = e
-      go false true e = absurd (n (number ∙ ap (λ (l : Left). numberOf (outcomeOf l)) e))
+      go false true e = absurd (n (number ∙ ap ended e))
 
   pub port-done : (r : State) → d ≡ 0 → r ≡ asPort (a .state) v c f → left (answer (a .outcome) r) ys ≡ portOf top v c f xs
-  unfolding remade judged made portOf
+  unfolding remade judged made portOf outcomeOf ifDone
   port-done r z p = go (tooLong (length xs)) (onGrid (length xs)) h
     where
-      go : (b g : Bool)
-          → left a ys ≡ cond b (left (answer TooLong zeroState) xs) (cond g (left (answer Done (measured top (fresh DC v zero32) (generated (fresh DC v zero32 .shape) xs .places))) (generated (fresh DC v zero32 .shape) xs .places)) (left (answer OffGrid zeroState) xs))
-          → left (answer (a .outcome) r) ys ≡ cond b (left (answer TooLong zeroState) xs) (cond g (left (answer Done (asPort (measured top (fresh DC v zero32) (generated (fresh DC v zero32 .shape) xs .places)) v c f)) (generated (fresh DC v zero32 .shape) xs .places)) (left (answer OffGrid zeroState) xs))
-      go true g e = absurd (three (sym z ∙ number ∙ ap (λ (l : Left). numberOf (outcomeOf l)) e))
+      go : (long grid : Bool) → left a ys ≡ over (chain long grid) plain → left (answer (a .outcome) r) ys ≡ over (chain long grid) (asPort plain v c f)
+      go true g e = absurd (three (sym z ∙ number ∙ ap ended e))
         where
           three : _≡_ {A = ℕ} 0 3 → ⊥
           three e = omega arith
-      go false false e = absurd (four (sym z ∙ number ∙ ap (λ (l : Left). numberOf (outcomeOf l)) e))
+      go false false e = absurd (four (sym z ∙ number ∙ ap ended e))
         where
           four : _≡_ {A = ℕ} 0 4 → ⊥
           four e = omega arith

@@ -16,6 +16,7 @@ use Rattle.generator.specs.declared.Shape.{Shape}
 use Rattle.generator.specs.Sample.{sampleAt, generated}
 use Rattle.spectrum.specs.Grid.{onGrid}
 use Rattle.spectrum.specs.Bin.{magnitudeOf}
+use Rattle.spectrum.specs.Spectrum.{outcomeOf, ifDone}
 use Rattle.figures.specs.Figures.{figuresOf, answerOf}
 use Rattle.distortion.specs.Thd.{binOf, usable, thdOf, thdAt, thdFrom}
 use Rattle.signal.specs.declared.State.{State}
@@ -39,7 +40,7 @@ shapeIn l = l .answer .state .shape
 -- ---- one call on a length that is taken
 
 judged-taken : (s : State) (xs : List Float) (done : Left) → Taken xs → judged s xs done ≡ done
-unfolding judged
+unfolding judged outcomeOf ifDone
 judged-taken s xs done h = rw (h .0, h .1)
 
 abbrev withSetting : State → Setting → State

@@ -77,16 +77,10 @@ pub fn set_duty_cycle(state: State, duty_cycle: f32, samples: &mut [f32]) -> Ans
 pub fn reset_waveform(state: State, samples: &mut [f32]) -> Answer
     ensures { λ r. ⌜ left r (now (samples .exit)) ≡ resetOf state (now (samples .entry)) ⌝ }
 {
-    let n = samples.len();
-    if n > answers::LONGEST {
+    let outcome = spectrum::parts::judged(samples.len(), false);
+    if answers::number_of(outcome) != 0 {
         return Answer {
-            outcome: Outcome::TooLong,
-            state: state,
-        };
-    }
-    if !spectrum::parts::on_grid(n) {
-        return Answer {
-            outcome: Outcome::OffGrid,
+            outcome: outcome,
             state: state,
         };
     }

@@ -201,16 +201,10 @@ fn make(state: State, samples: &mut [f32]) -> State
 pub fn remake(earlier: State, next: State, samples: &mut [f32]) -> Answer
     ensures { λ r. ⌜ left r (now (samples .exit)) ≡ remade highest earlier next (now (samples .entry)) ⌝ }
 {
-    let n = samples.len();
-    if n > answers::LONGEST {
+    let outcome = spectrum::parts::judged(samples.len(), false);
+    if answers::number_of(outcome) != 0 {
         return Answer {
-            outcome: Outcome::TooLong,
-            state: earlier,
-        };
-    }
-    if !spectrum::parts::on_grid(n) {
-        return Answer {
-            outcome: Outcome::OffGrid,
+            outcome: outcome,
             state: earlier,
         };
     }

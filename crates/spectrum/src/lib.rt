@@ -8,27 +8,11 @@ ghost use Rattle.answers.specs.Written.{written};
 ghost use Rattle.laws.specs.Filled.{filled};
 ghost use Rattle.quarter.specs.Table.{quarterTable};
 ghost use Rattle.spectrum.specs.Grid.{onGrid};
-ghost use Rattle.spectrum.specs.Spectrum.{bins, outcomeOf, spectrumOf};
+ghost use Rattle.spectrum.specs.Spectrum.{bins, spectrumOf};
 ghost use Rattle.spectrum.specs.Sines.{worked, sineAt, spectrumIn};
 
 pub mod parts;
 mod several;
-
-// The refusals in their order.
-fn judged(n: usize, short: bool) -> Outcome
-    ensures { λ r. ⌜ r ≡ outcomeOf n short ⌝ }
-{
-    if n > answers::LONGEST {
-        return Outcome::TooLong;
-    }
-    if !parts::on_grid(n) {
-        return Outcome::OffGrid;
-    }
-    if short {
-        return Outcome::OutputShort;
-    }
-    Outcome::Done
-}
 
 // The bins below half the length, one after the other.
 fn fill(table: &[u32; 1025], samples: &[f32], output: &mut [f32])
@@ -50,7 +34,7 @@ pub fn dft_magnitude_spectrum(samples: &[f32], output: &mut [f32]) -> Outcome
     ensures { λ r. ⌜ written r (now (output .exit)) ≡ spectrumOf (now (samples .entry)) (now (output .entry)) ⌝ }
 {
     let n = samples.len();
-    let outcome = judged(n, output.len() < n / 2);
+    let outcome = parts::judged(n, output.len() < n / 2);
     if answers::number_of(outcome) != 0 {
         return outcome;
     }
@@ -85,7 +69,7 @@ pub fn dft_magnitude_spectrum_in(
         ≡ spectrumIn (now (samples .entry)) (now (scratch .entry)) (now (output .entry)) ⌝ }
 {
     let n = samples.len();
-    let outcome = judged(n, (output.len() < n / 2) | (scratch.len() < n));
+    let outcome = parts::judged(n, (output.len() < n / 2) | (scratch.len() < n));
     if answers::number_of(outcome) != 0 {
         return outcome;
     }

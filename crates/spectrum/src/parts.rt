@@ -1,4 +1,4 @@
-// The grid of lengths, and one bin of the spectrum, for the spectrum itself and for whoever needs single bins. The table is named by the caller, once, and lent.
+// The grid of lengths, which lengths are refused, and one bin of the spectrum, for the spectrum itself and for whoever needs single bins. The table is named by the caller, once, and lent.
 ghost use mathlib.Core.Path.{_≡_};
 ghost use mathlib.Core.Bool.{true};
 ghost use Prim.Native.Nat.{_<_, _≤_};
@@ -6,7 +6,8 @@ ghost use lib.ListN.{length};
 ghost use Rattle.quarter.specs.Table.{quarterTable};
 ghost use Rattle.spectrum.specs.Grid.{onGrid};
 ghost use Rattle.spectrum.specs.Bin.{turned, sumsOf, sizeOf, magnitudeOf};
-ghost use Rattle.spectrum.specs.Spectrum.{halved};
+ghost use Rattle.spectrum.specs.Spectrum.{halved, outcomeOf};
+use answers::Outcome;
 
 // A length on the grid is 0, or divides 4,096.
 pub fn on_grid(n: usize) -> bool
@@ -16,6 +17,22 @@ pub fn on_grid(n: usize) -> bool
         return true;
     }
     4096 % n == 0
+}
+
+// The refusals in their order, of n samples and of what was lent.
+pub fn judged(n: usize, short: bool) -> Outcome
+    ensures { λ r. ⌜ r ≡ outcomeOf n short ⌝ }
+{
+    if n > answers::LONGEST {
+        return Outcome::TooLong;
+    }
+    if !on_grid(n) {
+        return Outcome::OffGrid;
+    }
+    if short {
+        return Outcome::OutputShort;
+    }
+    Outcome::Done
 }
 
 // The real and the imaginary sum of a bin.

@@ -1,19 +1,20 @@
 -- `quality::with_block` meets its contract. The loop's invariant: the sum has the first k squares. The measure is what is left of the block. Assumes nothing.
-use mathlib.Core.Path.{_≡_, refl, ap, _∙_}
+use mathlib.Core.Path.{_≡_, refl, sym, ap, ap₂, _∙_}
 use Prim.Native.Nat.{ℕ, suc, _+_, _-_, _≤_}
 use native.Mathlib.Omega.{arith}
 use borrow.Author.Needs.{needs}
 use mathlib.Core.List.{List}
 use lib.Ieee.{Float, binary64, add}
+use Rattle.laws.specs.Walks.{over}
 use Rattle.laws.specs.Harmonics.{squareOf}
 use Rattle.laws.proofs.Numbers.{numbers-in-at, number-same}
 use Rattle.quality.specs.Powers.{magnitudeIn, block, withSquares}
+use Rattle.quality.proofs.Orders.{squares-next}
 use Rattle.quality.proofs.with_block.Statement.{statement}
 use Rattle.quality.proofs.with_block.Tie as tie
 
 one-more : (s : List Float) (from k : ℕ) (t u v : Float) → u ≡ withSquares s from t k → v ≡ squareOf (magnitudeIn s (from + k)) → add binary64 u v ≡ withSquares s from t (k + 1)
-unfolding withSquares
-one-more s from k t u v e q = ap (λ (x : Float). add binary64 x v) e ∙ (ap (add binary64 (withSquares s from t k)) q ∙ ap (withSquares s from t) (after k))
+one-more s from k t u v e q = ap₂ (add binary64) e q ∙ (sym (squares-next s from t k) ∙ ap (withSquares s from t) (after k))
   where
     after : (i : ℕ) → suc i ≡ i + 1
     after i = omega arith
@@ -25,7 +26,7 @@ abbrev μ-loop : tie.MeasureT-loop
 μ-loop spectrum from start sum₀ k₀ sum k = block - k
 
 loop-holds : tie.Need-loop-holds Inv-loop μ-loop
-unfolding withSquares
+unfolding withSquares over
 loop-holds c = (omega arith, refl)
 
 add-square-of-number : tie.Need-add-square-of-number Inv-loop μ-loop

@@ -8,8 +8,9 @@ use borrow.Author.Needs.{needs}
 use lib.Dec.{T, eqb, eqb·suc-suc, eqb→eq}
 use lib.ListN.{getD}
 use lib.Ieee.{Float, nan, eq, ne}
+use Rattle.laws.specs.Walks.{over}
 use Rattle.laws.specs.Samples.{stillNumbers, numbersIn}
-use Rattle.laws.proofs.Numbers.{still-nan, still-number}
+use Rattle.laws.proofs.Numbers.{still-nan, still-number, numbers-in-next}
 use Rattle.number.proofs.parts.numbers_in.Statement.{statement}
 use Rattle.number.proofs.parts.numbers_in.Tie as tie
 
@@ -33,8 +34,10 @@ Told xs from n k = (n ≤ k) × (numbersIn xs from k ≡ eqb n k)
 
 -- one sample more
 one-more : (xs : List Float) (from n k r : ℕ) → Told xs from n k → r ≡ cond (eq (getD xs (from + k) nan) (getD xs (from + k) nan)) (n + 1) n → Told xs from r (k + 1)
-unfolding numbersIn ne
-one-more xs from n k r m q = subst (Told xs from r) (after k) (go (getD xs (from + k) nan) (numbersIn xs from k) (m .1) _ refl q)
+unfolding ne
+one-more xs from n k r m q =
+    let o = go (getD xs (from + k) nan) (numbersIn xs from k) (m .1) _ refl q in
+    subst (Told xs from r) (after k) (o .0, numbers-in-next xs from k ∙ o .1)
   where
     go : (x : Float) (t : Bool) → t ≡ eqb n k → (b : Bool) → eq x x ≡ b → r ≡ cond b (n + 1) n → (r ≤ suc k) × (stillNumbers t x ≡ eqb r (suc k))
     go x t e false h q = (omega (arith, m .0), sym (still-nan t x (ap not h)) ∙ (behind n k (m .0) ∙ ap (λ (i : ℕ). eqb i (suc k)) (sym q)))
@@ -47,7 +50,7 @@ abbrev μ-loop : tie.MeasureT-loop
 μ-loop samples from count n₀ k₀ n k = count - k
 
 loop-holds : tie.Need-loop-holds Inv-loop μ-loop
-unfolding numbersIn
+unfolding numbersIn over
 loop-holds c = (omega arith, (omega arith, refl))
 
 add-x : tie.Need-add-x Inv-loop μ-loop

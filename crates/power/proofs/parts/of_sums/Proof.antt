@@ -3,7 +3,7 @@ use native.Mathlib.Omega.{arith}
 use Prim.Native.Nat.{_^_}
 use lib.Dec.{le→leb}
 use lib.Ieee.{inFloat}
-use Rattle.power.specs.Power.{recordOf, activeOf, apparentOf, meanOf}
+use Rattle.power.specs.Power.{recordOf, activeOf, apparentOf, narrowedRoot, meanOf}
 use borrow.Author.Needs.{needs}
 use Rattle.power.proofs.parts.of_sums.Statement.{statement}
 use Rattle.power.proofs.parts.of_sums.Tie as tie
@@ -15,11 +15,11 @@ int-to-float-n c = le→leb (c .before .args .t .count) (2 ^ 53) (omega arith)
 narrow-requires : tie.Need-narrow-requires
 narrow-requires c κs = search needs
 
-narrowed-root-requires : tie.Need-narrowed-root-requires
-narrowed-root-requires c κs = search needs
+sqrt64-narrowed-requires : tie.Need-sqrt64-narrowed-requires
+sqrt64-narrowed-requires c κs = search needs
 
-narrowed-root-requires-2 : tie.Need-narrowed-root-requires-2
-narrowed-root-requires-2 c κs = search needs
+sqrt64-narrowed-requires-2 : tie.Need-sqrt64-narrowed-requires-2
+sqrt64-narrowed-requires-2 c κs = search needs
 
 reactive-requires : tie.Need-reactive-requires
 reactive-requires c κs = search needs
@@ -28,8 +28,8 @@ factor-requires : tie.Need-factor-requires
 factor-requires c κs = search needs
 
 returns : tie.Need-returns
-unfolding recordOf activeOf apparentOf meanOf
-returns c = rw (c .factor .ensures, c .before .reactive .ensures, c .before .before .narrowed-root2 .ensures, c .before .before .before .before .narrowed-root .ensures, c .before .before .before .before .before .before .narrow .ensures)
+unfolding recordOf activeOf apparentOf narrowedRoot meanOf
+returns c = rw (c .factor .ensures, c .before .reactive .ensures, c .before .before .sqrt64-narrowed2 .ensures, c .before .before .before .before .sqrt64-narrowed .ensures, c .before .before .before .before .before .before .narrow .ensures)
 
 pub of-sums-spec : {M : Type 1} → statement M
 of-sums-spec =
@@ -37,8 +37,8 @@ of-sums-spec =
     (tie.spec
     int-to-float-n
     narrow-requires
-    narrowed-root-requires
-    narrowed-root-requires-2
+    sqrt64-narrowed-requires
+    sqrt64-narrowed-requires-2
     reactive-requires
     factor-requires
     returns)

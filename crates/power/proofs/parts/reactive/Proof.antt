@@ -1,5 +1,5 @@
 -- `power::parts::reactive` meets its contract. Assumes nothing.
-use Rattle.power.specs.Power.{reactiveOf}
+use Rattle.power.specs.Power.{reactiveOf, narrowedRoot}
 use borrow.Author.Needs.{needs}
 use Rattle.power.proofs.parts.reactive.Statement.{statement}
 use Rattle.power.proofs.parts.reactive.Tie as tie
@@ -13,12 +13,12 @@ f32-to-f64-with-nan-requires-2 c κs = search needs
 above-zero-requires : tie.Need-above-zero-requires
 above-zero-requires c κs = search needs
 
-narrowed-root-requires : tie.Need-narrowed-root-requires
-narrowed-root-requires c κs = search needs
+sqrt64-narrowed-requires : tie.Need-sqrt64-narrowed-requires
+sqrt64-narrowed-requires c κs = search needs
 
 returns : tie.Need-returns
-unfolding reactiveOf
-returns c = rw (c .narrowed-root .ensures, c .before .above-zero .ensures, c .before .before .f32-to-f64-with-nan2 .ensures, c .before .before .before .f32-to-f64-with-nan .ensures)
+unfolding reactiveOf narrowedRoot
+returns c = rw (c .sqrt64-narrowed .ensures, c .before .above-zero .ensures, c .before .before .f32-to-f64-with-nan2 .ensures, c .before .before .before .f32-to-f64-with-nan .ensures)
 
 pub reactive-spec : {M : Type 1} → statement M
 reactive-spec =
@@ -27,5 +27,5 @@ reactive-spec =
     f32-to-f64-with-nan-requires
     f32-to-f64-with-nan-requires-2
     above-zero-requires
-    narrowed-root-requires
+    sqrt64-narrowed-requires
     returns)

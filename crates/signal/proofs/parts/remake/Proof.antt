@@ -1,39 +1,39 @@
--- `signal::parts::remake` meets its contract: each test picks its case. Assumes nothing.
+-- `signal::parts::remake` meets its contract: a refusal writes nothing, and where none holds `make` writes the samples. Assumes nothing.
 use borrow.Author.Needs.{needs}
 use mathlib.Core.Path.{sym, _∙_}
-use borrow.Author.Tests.{lt-ltb, le-ltb, not-true, not-false}
-use Rattle.signal.specs.Calls.{remade, judged}
+use Rattle.spectrum.proofs.Ends.{none-holds}
+use Rattle.signal.specs.Calls.{remade}
+use Rattle.signal.proofs.Ends.{refused, taken}
 use Rattle.signal.proofs.parts.remake.Statement.{statement}
 use Rattle.signal.proofs.parts.remake.Tie as tie
 
-on-grid-requires : tie.Need-on-grid-requires
-on-grid-requires c κs = search needs
+judged-requires : tie.Need-judged-requires
+judged-requires c κs = search needs
+
+number-of-requires : tie.Need-number-of-requires
+number-of-requires c κs = search needs
 
 same-length : tie.Need-same-length
 same-length c = search needs
 
 returns : tie.Need-returns
-unfolding remade judged
-returns c = simp (lt-ltb _ _ (c .if1 .taken))
-
-returns-2 : tie.Need-returns-2
-unfolding remade judged
-returns-2 c = simp (le-ltb _ _ (c .before .before .if1 .left), sym (c .before .on-grid .ensures) ∙ not-true (c .before .on-grid .result) (c .if2 .taken))
+unfolding remade
+returns c = refused _ _ _ _ _ (c .before .before .judged .ensures) (c .before .number-of .ensures) (c .if1 .taken)
 
 make-requires : tie.Need-make-requires
-make-requires c κs = sym (c .before .before .on-grid .ensures) ∙ not-false (c .before .before .on-grid .result) (c .before .if2 .left)
+make-requires c κs = none-holds _ _ _ _ (c .before .before .before .judged .ensures) (c .before .before .number-of .ensures) (c .before .if1 .left) .0
 
-returns-3 : tie.Need-returns-3
-unfolding remade judged
-returns-3 c = simp (le-ltb _ _ (c .before .before .before .before .before .before .if1 .left), sym (c .before .before .before .before .before .on-grid .ensures) ∙ not-false (c .before .before .before .before .before .on-grid .result) (c .before .before .before .before .if2 .left)) (c .before .before .make .ensures)
+returns-2 : tie.Need-returns-2
+unfolding remade
+returns-2 c = c .before .before .make .ensures ∙ sym (taken _ _ _ _ _ (c .before .before .before .before .before .before .judged .ensures) (c .before .before .before .before .before .number-of .ensures) (c .before .before .before .before .if1 .left))
 
 pub remake-spec : {M : Type 1} → statement M
 remake-spec =
     tie.close
     (tie.spec
+    judged-requires
+    number-of-requires
     returns
-    on-grid-requires
-    returns-2
     make-requires
     same-length
-    returns-3)
+    returns-2)

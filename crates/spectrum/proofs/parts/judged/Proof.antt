@@ -1,10 +1,10 @@
--- `spectrum::judged` meets its contract: each return is the case of the definition that the tests before it pick. Assumes nothing.
+-- `spectrum::parts::judged` meets its contract: each return is the case of the definition that the tests before it pick. Assumes nothing.
 use borrow.Author.Needs.{needs}
 use mathlib.Core.Path.{sym, _∙_}
 use borrow.Author.Tests.{lt-ltb, le-ltb, not-true, not-false}
 use Rattle.spectrum.specs.Spectrum.{outcomeOf}
-use Rattle.spectrum.proofs.judged.Statement.{statement}
-use Rattle.spectrum.proofs.judged.Tie as tie
+use Rattle.spectrum.proofs.parts.judged.Statement.{statement}
+use Rattle.spectrum.proofs.parts.judged.Tie as tie
 
 returns : tie.Need-returns
 unfolding outcomeOf
