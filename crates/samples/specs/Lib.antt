@@ -1,2 +1,3 @@
 -- What the contracts of `samples` cite. Assumes nothing.
+pub mod Runs
 pub mod Samples

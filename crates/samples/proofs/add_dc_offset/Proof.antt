@@ -2,14 +2,13 @@
 use mathlib.Core.Path.{_≡_, refl, _∙_, ap}
 use Prim.Native.Nat.{_≤_, _-_}
 use native.Mathlib.Omega.{arith}
-use borrow.Author.Needs.{needs}
 use borrow.Author.Tests.{lt-ltb}
 use denote.Ref.{now}
 use lib.ListN.{length}
 use lib.Ieee.{Float, binary32, add}
 use Rattle.laws.proofs.Filling.{filled-none, filled-length}
 use Rattle.samples.specs.Samples.{each}
-use Rattle.samples.proofs.Each.{eachTo, each-next, each-done}
+use Rattle.samples.proofs.Each.{eachTo, each-on, each-done}
 use Rattle.samples.proofs.add_dc_offset.Statement.{statement}
 use Rattle.samples.proofs.add_dc_offset.Tie as tie
 
@@ -29,21 +28,11 @@ returns c = simp (lt-ltb _ _ (c .if1 .taken))
 loop-holds : tie.Need-loop-holds Inv-loop μ-loop
 loop-holds c = (refl, omega arith, filled-none _ _)
 
-mul-samples : tie.Need-mul-samples Inv-loop μ-loop
-mul-samples c = search needs
+add-loop : tie.Need-add-loop Inv-loop μ-loop
+add-loop c = omega arith
 
-slice-read-samples : tie.Need-slice-read-samples Inv-loop μ-loop
-slice-read-samples c =
-    let e = ap length (c .before .before .loop .inv .2) ∙ filled-length _ _ _ in
-    omega arith
-
-mul-samples-2 : tie.Need-mul-samples-2 Inv-loop μ-loop
-mul-samples-2 c = search needs
-
-slice-write-samples : tie.Need-slice-write-samples Inv-loop μ-loop
-slice-write-samples c =
-    let e = ap length (c .before .before .loop .inv .2) ∙ filled-length _ _ _ in
-    omega arith
+offset-run-requires : tie.Need-offset-run-requires Inv-loop μ-loop
+offset-run-requires c κs = rw (c .before .before .loop .inv .2, filled-length) (omega arith)
 
 add-k : tie.Need-add-k Inv-loop μ-loop
 add-k c = omega arith
@@ -53,18 +42,24 @@ loop-less c = omega arith
 
 loop-again : tie.Need-loop-again Inv-loop μ-loop
 loop-again c =
-    let l = c .before .before .loop in
-    let a = c .before .before .before .before .args in
-    (refl, omega arith, each-next (one (a .offset)) (now (a .samples)) _ (l .k) (omega arith) (l .inv .2))
+    let l = c .before .before .before .before .before .loop in
+    let a = c .before .before .before .before .before .before .before .before .args in
+    (refl, omega arith, each-on (one (a .offset)) (now (a .samples)) _ _ (l .k) _ (c .before .before .offset-run .ensures) (l .inv .2))
+
+sub-offset-run : tie.Need-sub-offset-run Inv-loop μ-loop
+sub-offset-run c = omega arith
+
+offset-run-requires-2 : tie.Need-offset-run-requires-2 Inv-loop μ-loop
+offset-run-requires-2 c κs = rw (c .before .before .loop .inv .2, filled-length) (omega arith)
 
 same-length : tie.Need-same-length Inv-loop μ-loop
-same-length c = ap length (c .before .loop .inv .2) ∙ filled-length _ _ _
+same-length c = c .before .before .offset-run2 .kept .0 ∙ (ap length (c .before .before .before .before .before .loop .inv .2) ∙ filled-length _ _ _)
 
 returns-2 : tie.Need-returns-2 Inv-loop μ-loop
 returns-2 c =
-    let l = c .before .loop in
-    let a = c .before .before .before .args in
-    each-done (one (a .offset)) (now (a .samples)) _ (l .k) (omega arith) (omega arith) (l .inv .2)
+    let l = c .before .before .before .before .before .loop in
+    let a = c .before .before .before .before .before .before .before .before .args in
+    each-done (one (a .offset)) (now (a .samples)) _ _ (l .k) _ (omega arith) (omega arith) (c .before .before .offset-run2 .ensures) (l .inv .2)
 
 pub add-dc-offset-spec : {M : Type 1} → statement M
 add-dc-offset-spec =
@@ -74,12 +69,12 @@ add-dc-offset-spec =
     μ-loop
     returns
     loop-holds
-    mul-samples
-    slice-read-samples
-    mul-samples-2
-    slice-write-samples
+    add-loop
+    offset-run-requires
     add-k
     loop-less
     loop-again
+    sub-offset-run
+    offset-run-requires-2
     same-length
     returns-2)

@@ -2,14 +2,13 @@
 use mathlib.Core.Path.{_≡_, refl, _∙_, ap}
 use Prim.Native.Nat.{_≤_, _-_}
 use native.Mathlib.Omega.{arith}
-use borrow.Author.Needs.{needs}
 use borrow.Author.Tests.{lt-ltb}
 use denote.Ref.{now}
 use lib.ListN.{length}
 use lib.Ieee.{Float, binary32, mul}
 use Rattle.laws.proofs.Filling.{filled-none, filled-length}
 use Rattle.samples.specs.Samples.{each}
-use Rattle.samples.proofs.Each.{eachTo, each-next, each-done}
+use Rattle.samples.proofs.Each.{eachTo, each-on, each-done}
 use Rattle.samples.proofs.scale.Statement.{statement}
 use Rattle.samples.proofs.scale.Tie as tie
 
@@ -29,21 +28,11 @@ returns c = simp (lt-ltb _ _ (c .if1 .taken))
 loop-holds : tie.Need-loop-holds Inv-loop μ-loop
 loop-holds c = (refl, omega arith, filled-none _ _)
 
-mul-samples : tie.Need-mul-samples Inv-loop μ-loop
-mul-samples c = search needs
+add-loop : tie.Need-add-loop Inv-loop μ-loop
+add-loop c = omega arith
 
-slice-read-samples : tie.Need-slice-read-samples Inv-loop μ-loop
-slice-read-samples c =
-    let e = ap length (c .before .before .loop .inv .2) ∙ filled-length _ _ _ in
-    omega arith
-
-mul-samples-2 : tie.Need-mul-samples-2 Inv-loop μ-loop
-mul-samples-2 c = search needs
-
-slice-write-samples : tie.Need-slice-write-samples Inv-loop μ-loop
-slice-write-samples c =
-    let e = ap length (c .before .before .loop .inv .2) ∙ filled-length _ _ _ in
-    omega arith
+scale-run-requires : tie.Need-scale-run-requires Inv-loop μ-loop
+scale-run-requires c κs = rw (c .before .before .loop .inv .2, filled-length) (omega arith)
 
 add-i : tie.Need-add-i Inv-loop μ-loop
 add-i c = omega arith
@@ -53,18 +42,24 @@ loop-less c = omega arith
 
 loop-again : tie.Need-loop-again Inv-loop μ-loop
 loop-again c =
-    let l = c .before .before .loop in
-    let a = c .before .before .before .before .args in
-    (refl, omega arith, each-next (one (a .factor)) (now (a .samples)) _ (l .i) (omega arith) (l .inv .2))
+    let l = c .before .before .before .before .before .loop in
+    let a = c .before .before .before .before .before .before .before .before .args in
+    (refl, omega arith, each-on (one (a .factor)) (now (a .samples)) _ _ (l .i) _ (c .before .before .scale-run .ensures) (l .inv .2))
+
+sub-scale-run : tie.Need-sub-scale-run Inv-loop μ-loop
+sub-scale-run c = omega arith
+
+scale-run-requires-2 : tie.Need-scale-run-requires-2 Inv-loop μ-loop
+scale-run-requires-2 c κs = rw (c .before .before .loop .inv .2, filled-length) (omega arith)
 
 same-length : tie.Need-same-length Inv-loop μ-loop
-same-length c = ap length (c .before .loop .inv .2) ∙ filled-length _ _ _
+same-length c = c .before .before .scale-run2 .kept .0 ∙ (ap length (c .before .before .before .before .before .loop .inv .2) ∙ filled-length _ _ _)
 
 returns-2 : tie.Need-returns-2 Inv-loop μ-loop
 returns-2 c =
-    let l = c .before .loop in
-    let a = c .before .before .before .args in
-    each-done (one (a .factor)) (now (a .samples)) _ (l .i) (omega arith) (omega arith) (l .inv .2)
+    let l = c .before .before .before .before .before .loop in
+    let a = c .before .before .before .before .before .before .before .before .args in
+    each-done (one (a .factor)) (now (a .samples)) _ _ (l .i) _ (omega arith) (omega arith) (c .before .before .scale-run2 .ensures) (l .inv .2)
 
 pub scale-spec : {M : Type 1} → statement M
 scale-spec =
@@ -74,12 +69,12 @@ scale-spec =
     μ-loop
     returns
     loop-holds
-    mul-samples
-    slice-read-samples
-    mul-samples-2
-    slice-write-samples
+    add-loop
+    scale-run-requires
     add-i
     loop-less
     loop-again
+    sub-scale-run
+    scale-run-requires-2
     same-length
     returns-2)
