@@ -3,12 +3,12 @@
 # Only packages that are absent are installed; nothing else is fetched.
 set -euo pipefail
 cd "$(dirname "$0")"
-. ./env.sh
 . ./packages.sh
 
 install librust-libm-dev
-[ -n "$native" ] || cross_tools
 command -v cargo >/dev/null || install cargo rustc
+. ./env.sh
+[ -n "$native" ] || cross_tools
 
 ln -sfn "$(dirname "$(dpkg -L librust-libm-dev | grep '/Cargo.toml$' | head -n 1)")" libm
 mkdir -p gen

@@ -3,6 +3,7 @@
 An edit after which a need of the proof has no name any more, or a place of the code is not where the proof looks for it, only
 made the proof unfit for the code and shows nothing: such a one is marked WEAK, and the program ends with status 1. An edit with a
 line '# refuses: F G ..' makes one wrong change in each of these functions, and is WEAK unless each of them was refused.
+An edit whose log has no error, or that has no log, counts as WEAK too. Logs of an earlier run are not told from those of the last.
 usage: refusals.py [CRATE..]   in the repository's root"""
 import pathlib
 import re
@@ -10,18 +11,23 @@ import sys
 
 WEAK = re.compile(r"that can be named from here|\.Lts\.\S+` has no field")
 weak = 0
-for log in sorted(pathlib.Path("target/must-fail").glob("*/*/.log")):
-    crate, label = log.parts[-3], log.parts[-2]
-    path = pathlib.Path("crates", crate, "must-fail", label + ".edit")
-    if (sys.argv[1:] and crate not in sys.argv[1:]) or not path.exists():
+for path in sorted(pathlib.Path("crates").glob("*/must-fail/*.edit")):
+    crate, label = path.parts[1], path.stem
+    if sys.argv[1:] and crate not in sys.argv[1:]:
+        continue
+    log = pathlib.Path("target/must-fail", crate, label, ".log")
+    if not log.exists():
+        weak += 1
+        print(f"WEAK {crate}/{label}: not tried")
         continue
     text = log.read_text(encoding="utf-8", errors="replace")
     errors = re.findall(r"^\S*?/([^/\s]+/[^/\s]+):\d+:\d+: error: (.*)$", text, re.M)
+    errors += re.findall(r"^fn (\S+): no proof: .*; (`search` does not close .*)$", text, re.M)
     named = re.findall(r"^# refuses: (.*)$", path.read_text(encoding="utf-8"), re.M)
     # refused for itself, and not only because a function that it calls was
     own = r"^fn \S*::{0}: (?:not proved$|no proof: .*does not close)|/{0}/Proof\.antt:\d+:\d+: error: (?!.*was not admitted)"
     passed = [f for f in " ".join(named).split() if not re.search(own.format(f), text, re.M)]
-    mark = "WEAK" if WEAK.search(text) or passed else "ok"
+    mark = "WEAK" if WEAK.search(text) or passed or not errors else "ok"
     weak += mark == "WEAK"
     where, why = errors[0] if errors else ("", "no error was found in the log")
     print(f"{mark:4} {crate}/{label}: {where}: {why[:160]}" + (f" NOT REFUSED: {' '.join(passed)}" if passed else ""))

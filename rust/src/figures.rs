@@ -12,11 +12,14 @@ pub struct Power {
     pub q: f32,
     /// Apparent power: the product of the root mean squares.
     pub s: f32,
-    /// The power factor, p / s.
+    /// The power factor, p / s; 0 where s is not above 1e-12.
     pub pf: f32,
 }
 
 /// The 19 time figures, in the order of the Rust's `SignalMetrics`.
+///
+/// No sample rate is given: for frequency, period and slew rate the samples are one second; for rise and fall time they are one period of the
+/// frequency handed in where that is above 0, and else one second.
 #[derive(Clone, Copy, Debug, Default, PartialEq)]
 #[repr(C)]
 pub struct TimeFigures {
@@ -40,9 +43,9 @@ pub struct TimeFigures {
     pub duty_cycle_pos: f32,
     /// The other samples' share.
     pub duty_cycle_neg: f32,
-    /// Time of the last rise, from a tenth to nine tenths of the swing; the samples are one second.
+    /// Time of the last rise, from a tenth to nine tenths of the swing, in seconds.
     pub rise_time: f32,
-    /// Time of the last fall.
+    /// Time of the last fall, in seconds.
     pub fall_time: f32,
     /// Peak over root mean square.
     pub crest_factor: f32,

@@ -17,6 +17,18 @@ pub struct Settings {
     pub thd: f32,
 }
 
+impl Settings {
+    /// The wave; a number that is none counts as DC, as it does in every call.
+    pub fn wave(&self) -> Wave {
+        match self.wave {
+            1 => Wave::PWM,
+            2 => Wave::Triangular,
+            3 => Wave::Sawtooth,
+            _ => Wave::DC,
+        }
+    }
+}
+
 /// The 19 time figures and the total harmonic distortion.
 #[derive(Clone, Copy, Debug, PartialEq)]
 pub struct Metrics {
@@ -109,7 +121,7 @@ impl<'a> Signal<'a> {
         }
     }
 
-    /// The record without the samples.
+    /// The record without the samples: amplitude, phase in degrees, frequency, duty cycle, port, figures and distortion.
     pub fn settings(&self) -> &Settings {
         &self.settings
     }

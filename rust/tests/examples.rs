@@ -29,6 +29,7 @@ fn direct_current() {
 fn pulses_of_a_quarter() {
     let mut samples = [0.0; 1024];
     let mut signal = Signal::new(Wave::PWM, 5.0, 1000.0, &mut samples).unwrap();
+    assert_eq!(signal.settings().wave(), Wave::PWM);
     signal.set_duty_cycle(0.25).unwrap();
     let metrics = signal.get_metrics().figures;
     assert!((metrics.duty_cycle_pos - 0.25).abs() < 0.01);
