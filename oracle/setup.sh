@@ -16,11 +16,14 @@ cat ../docs/src/src--src--signal--signal.rs.txt src/tail.rs > gen/signal.new
 cmp -s gen/signal.new gen/signal.rs || cp gen/signal.new gen/signal.rs
 rm gen/signal.new
 
-# the three decibel functions with the logarithm cut off: what they hand to it, as kind and ratio
-for name in snr sinad sfdr; do sed -n "/^pub fn compute_$name(/,/^}/p" ../docs/src/src--src--signal--signal.rs.txt; done |
+# the three decibel functions with the logarithm cut off: what they hand to it, as kind and ratio; and THD with the library's root in the place of libm's
+published() { sed -n "/^pub fn compute_$1(/,/^}/p" ../docs/src/src--src--signal--signal.rs.txt; }
+for name in snr sinad sfdr; do published $name; done |
   sed -e 's/^pub fn compute_/pub fn cut_/' -e 's/-> f32 {/-> (u8, f64) {/' -e 's/return 0\.0;/return (2, 0.0);/' \
     -e 's/(10\.0 \* libm::log10(\(.*\))) as f32/(0, \1)/' -e 's/20\.0 \* libm::log10f(\(.*\))/(0, (\1) as f64)/' \
     -e 's/^        120\.0$/        (1, 0.0)/' > gen/cut.new
+published thd_from_spectrum |
+  sed -e 's/^pub fn compute_thd_from_spectrum/pub fn thd_by_our_root/' -e 's/libm::sqrt(\(.*\)) as f32/unsafe { super::tj_sqrt64_narrowed(\1) }/' >> gen/cut.new
 cmp -s gen/cut.new gen/cut.rs || cp gen/cut.new gen/cut.rs
 rm gen/cut.new
 

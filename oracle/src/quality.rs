@@ -1,7 +1,8 @@
 //! Distortion, effective bits, and the quotients that the Rust hands to the logarithm.
 //!
 //! `gen/cut.rs` is the published text of the three decibel functions with the logarithm cut off (setup.sh): kind 0 is the ratio, 1 no spur, 2 an unusable bin.
-//! The decibels that follow from our quotients are compared with the uncut functions besides.
+//! The decibels that follow from our quotients are compared with the uncut functions besides. THD with the library's root in the place of libm's is there for
+//! measuring: it tells the sum from the root.
 
 use crate::common::{bits32, bits64, black_box, edges32, list32, same64, Check, Kind, Log, Random, Table, KINDS};
 use crate::signal::{compute_enob, compute_sfdr, compute_sinad, compute_snr, compute_thd_from_spectrum};
@@ -28,6 +29,7 @@ extern "C" {
     fn tj_sinad_quotient(spectrum: *const f32, n: usize, fundamental_bin: usize) -> Quotient;
     fn tj_sfdr_quotient(spectrum: *const f32, n: usize, fundamental_bin: usize) -> Quotient;
     fn tj_compute_enob(sinad_db: f32) -> f32;
+    fn tj_sqrt64_narrowed(x: f64) -> f32;
 }
 
 fn our_thd(spectrum: &[f32], bin: usize) -> Figure {
@@ -223,6 +225,12 @@ pub fn bench(table: &mut Table) {
                 call,
                 n,
                 || drop(black_box(compute_thd_from_spectrum(black_box(s), black_box(bin)))),
+                || drop(black_box(our_thd(black_box(s), black_box(bin)))),
+            );
+            table.row(
+                &format!("{call}, against the Rust's text with our root"),
+                n,
+                || drop(black_box(cut::thd_by_our_root(black_box(s), black_box(bin)))),
                 || drop(black_box(our_thd(black_box(s), black_box(bin)))),
             );
         }
