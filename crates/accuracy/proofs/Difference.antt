@@ -11,8 +11,8 @@ use lib.IntN.{ℤ, pos, negsuc}
 use lib.Ieee.{Float, nan, inf, fin, Format, binary64, prec, emax, low, up, down, units, odd, round, neg, sum, add, sub, lt, fits, ofBits}
 use lib.Ieee.Fits.{round-is, round-fits, and-l, and-r}
 use lib.Ieee.Positive.{num, den, den-pos, first-pos}
-use Rattle.number.specs.Number.{narrow, root}
-use Rattle.power.specs.Power.{narrowedRoot, aboveZero}
+use Rattle.number.specs.Number.{narrow, root, narrowedRoot}
+use Rattle.power.specs.Power.{aboveZero}
 use Rattle.laws.proofs.Close.{round-close}
 use Rattle.laws.proofs.Size.{Size, size-pos, size-near, size-more, normal, Signed, SizeOf}
 use Rattle.laws.proofs.Zero.{lt-null, null-round}

@@ -8,8 +8,8 @@ use lib.Dec.{T, lit≤, lit<}
 use lib.IntN.{ℤ, natAbs}
 use lib.Ieee.{Float, binary32, binary64, round, mul, fits}
 use lib.Ieee.Positive.{num, den, den-pos}
-use Rattle.number.specs.Number.{narrow, root}
-use Rattle.power.specs.Power.{meanOf, narrowedRoot}
+use Rattle.number.specs.Number.{narrow, root, narrowedRoot}
+use Rattle.power.specs.Power.{meanOf}
 use Rattle.laws.specs.Whole.{Is}
 use Rattle.laws.proofs.Ratio.{Ratio, after, times, squared, weaken, renamed}
 use Rattle.laws.proofs.Close.{round-close}

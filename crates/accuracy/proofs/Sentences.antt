@@ -10,7 +10,8 @@ use lib.Ieee.{Float, nan, inf, fin, Format, binary32, binary64, up, down, unlike
 use lib.Ieee.Fits.{mul-fits, up-pos, down-pos}
 use lib.Ieee.Scale.{finite}
 use lib.Ieee.Positive.{num, den, den-pos}
-use Rattle.power.specs.Power.{narrowedRoot, factorOf, aboveZero}
+use Rattle.number.specs.Number.{narrowedRoot}
+use Rattle.power.specs.Power.{factorOf, aboveZero}
 use Rattle.laws.specs.Whole.{gap, signed, value}
 use Rattle.accuracy.specs.Accuracy.{Within, sign}
 use Rattle.laws.proofs.Ratio.{Ratio, after, weaken}

@@ -6,9 +6,9 @@ use mathlib.Core.List.{List, [], _∷_}
 use lib.Dec.{lit<}
 use lib.IntN.{ℤ, pos, negsuc}
 use lib.Ieee.{add, sub, mul, div, lt, ofInt, ofBits}
-use Rattle.number.specs.Number.{narrow, root}
+use Rattle.number.specs.Number.{narrow, root, narrowedRoot}
 use Rattle.power.specs.declared.Power.{Power}
-use Rattle.power.specs.Power.{sumTo, meanOf, activeOf, narrowedRoot, apparentOf, factorOf, aboveZero, reactiveOf, recordOf, powerOf}
+use Rattle.power.specs.Power.{sumTo, meanOf, activeOf, apparentOf, factorOf, aboveZero, reactiveOf, recordOf, powerOf}
 use Rattle.accuracy.specs.Accuracy.{samplesOf, codeAt, products, squares, ActiveNear, ApparentNear, ReactiveNear, FactorNear, AtMost}
 
 abbrev volts : List ℤ

@@ -15,7 +15,7 @@ use lib.Ieee.Scale.{finite}
 use Rattle.laws.specs.Harmonics.{squareOf, harmonicsOf, powerOf, lastUpTo}
 use Rattle.laws.specs.Literals.{zero32, zero64, hundred32}
 use Rattle.laws.proofs.NotFinite.{add-beyond, beyond-add, beyond-mul, beyond-div}
-use Rattle.number.specs.Number.{narrow, root}
+use Rattle.number.specs.Number.{narrow, root, narrowedRoot}
 use Rattle.quarter.specs.Table.{quarterTable}
 use Rattle.quarter.specs.Turn.{fraction, quadrant, sineOf, cosineOf}
 use Rattle.spectrum.specs.declared.parts.Sums.{Sums}
@@ -53,7 +53,7 @@ quotient (inf s) h = refl
 quotient (fin s m e) h = absurd (subst T h tt)
 
 over-inf : (power earlier : Float) → finite power ≡ false → thdFrom (inf false) power earlier ≡ nan
-unfolding thdFrom lt ofBits
+unfolding thdFrom narrowedRoot lt ofBits
 over-inf power earlier h = quotient (narrow (root binary64 power)) (narrow-beyond _ (root-beyond binary64 power h))
 
 below : (power earlier : Float) → thdFrom (inf true) power earlier ≡ earlier
@@ -61,7 +61,7 @@ unfolding thdFrom lt ofBits
 below power earlier = refl
 
 no-power : (earlier : Float) → thdFrom (inf false) zero64 earlier ≡ zero32
-unfolding thdFrom narrow root mul div lt ofBits
+unfolding thdFrom narrowedRoot narrow root mul div lt ofBits
 no-power earlier = refl
 
 -- the sample at the place j is not finite

@@ -4,10 +4,10 @@ use mathlib.Core.Bool.{Bool, cond, _&&_}
 use mathlib.Core.List.{List}
 use lib.Dec.{ltb}
 use lib.ListN.{length}
-use lib.Ieee.{Float, binary32, binary64, mul, div, lt, toUnsigned}
+use lib.Ieee.{Float, binary32, mul, div, lt, toUnsigned}
 use Rattle.laws.specs.Harmonics.{powerOf, lastUpTo}
 use Rattle.laws.specs.Literals.{zero32, hundred32, tiny32, count32}
-use Rattle.number.specs.Number.{narrow, root, roundAway}
+use Rattle.number.specs.Number.{narrowedRoot, roundAway}
 use Rattle.spectrum.specs.Bin.{magnitudeOf}
 
 -- the Rust's `roundf(frequency * n / rate) as usize`, where n samples are one second, so that the rate is n.
@@ -21,7 +21,7 @@ usable frequency half bin = ltb 1 half && (lt zero32 frequency && (ltb 0 bin && 
 
 -- the Rust's `(sqrt(power) as f32 / fundamental) * 100.0`; 01, where "its magnitude isn't above 1e-12, `Signal` keeps its earlier THD"
 unfoldable pub thdFrom : Float → Float → Float → Float
-thdFrom fundamental power earlier = cond (lt tiny32 fundamental) (mul binary32 (div binary32 (narrow (root binary64 power)) fundamental) hundred32) earlier
+thdFrom fundamental power earlier = cond (lt tiny32 fundamental) (mul binary32 (div binary32 (narrowedRoot power) fundamental) hundred32) earlier
 
 -- 01, "THD in `Signal` uses orders up to 16 and bins below half": the harmonics from order 2 on
 unfoldable pub thdAt : ℕ → ℕ → Float → List Float → Float

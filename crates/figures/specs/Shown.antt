@@ -10,7 +10,7 @@ use Rattle.generator.specs.declared.Wave.the-variants.{DC, PWM}
 use Rattle.laws.specs.Literals.{count32, count64}
 use Rattle.laws.specs.Samples.{higher, lower}
 use Rattle.laws.specs.Walks.{over, pairs}
-use Rattle.number.specs.Number.{narrow, root, abs}
+use Rattle.number.specs.Number.{narrow, root, narrowedRoot, abs}
 use Rattle.timing.specs.Timing.{totalOf, meanOf, risesAt, firstOf, crossingAt, crossingsOf, frequencyFrom, frequencyAbout, slewAt, steepestOf, slewOf}
 use Rattle.figures.specs.declared.TimeFigures.{TimeFigures}
 use Rattle.figures.specs.Levels.{maxOf, minOf, square, sumOf, averageOf, rectifiedOf, dcRmsOf, acRmsOf}
@@ -108,7 +108,7 @@ abbrev step : List Float
 step = map count32 (0 ∷ 0 ∷ 5 ∷ [])
 
 pub roots-differ :
-    dcRmsOf step ∷ narrow (root binary64 (div binary64 (sumOf square step) (count64 (length step)))) ∷ []
+    dcRmsOf step ∷ narrowedRoot (div binary64 (sumOf square step) (count64 (length step))) ∷ []
     ≡ b 0x4038C088 ∷ b 0x4038C089 ∷ []
-unfolding over meanOf sumOf dcRmsOf narrow root add mul div ofInt ofBits
+unfolding over meanOf sumOf dcRmsOf narrowedRoot narrow root add mul div ofInt ofBits
 roots-differ = refl

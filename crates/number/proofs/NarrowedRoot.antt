@@ -1,4 +1,4 @@
--- `narrow` of a `root`, by the fields of the number that the root is taken of, where the answer is a normal f32: as a bit pattern. Assumes nothing.
+-- `narrowedRoot`, by the fields of the number that the root is taken of, where the answer is a normal f32: as a bit pattern. Assumes nothing.
 use mathlib.Core.Path.{_≡_, sym, ap, _∙_, subst}
 use Prim.Native.Nat.{ℕ, zero, suc, _+_, _-_, _*_, _/_, _%_, _^_, _≤_, _<_}
 use native.Mathlib.Nat.{lt-of-lt-of-le, lt-of-not-le, mod-lt, mul-assoc, mul-le-mul, mul-pos}
@@ -9,7 +9,7 @@ use lib.Pow.{pow-mono, pow-pos, shl-lt}
 use lib.Ieee.{Float, binary32, binary64, odd, ofFields, toBits}
 use lib.Ieee.Exact.{HasValue, odd-sign}
 use lib.Ieee.Nearest.{closest}
-use Rattle.number.specs.Number.{narrow, root, wholeRoot}
+use Rattle.number.specs.Number.{root, narrowedRoot, wholeRoot}
 use Rattle.number.proofs.NarrowBits.{Beside, value-high, closest-le}
 use Rattle.number.proofs.RootBits.{Finer, Under, fields-suc, finer-value, root-value, under-even, under-root, under-scale}
 use Rattle.number.proofs.Scaled.{pow-sum}
@@ -44,7 +44,8 @@ no-carry M R h I = below R (lt-of-not-le (λ (g : 2 ^ 54 - 1 ≤ R). clash g))
 abbrev pub Bits : ℕ → ℕ → ℕ
 Bits m g = (g / 2 - 896) * 2 ^ 23 + closest ((wholeRoot (Under 53 m g) + 1) / 2) (2 ^ 29)
 
-units-bits : (m y : ℕ) → 2 ^ 52 ≤ m → m < 2 ^ 53 → 770 ≤ y → y ≤ 1277 → toBits binary32 (narrow (root binary64 (odd 53 false m y 1074))) ≡ Bits m (suc y + 1021)
+units-bits : (m y : ℕ) → 2 ^ 52 ≤ m → m < 2 ^ 53 → 770 ≤ y → y ≤ 1277 → toBits binary32 (narrowedRoot (odd 53 false m y 1074)) ≡ Bits m (suc y + 1021)
+unfolding narrowedRoot
 units-bits m y lo hi L U =
     let g = suc y + 1021 in
     let j = g / 2 in
@@ -67,10 +68,10 @@ units-bits m y lo hi L U =
     whole : (k q : ℕ) → k ≤ 253 → q ≤ 2 ^ 24 → 0 + Beside k q ≡ k * 2 ^ 23 + q
     whole k q h l = omega arith
 
-pub narrowed-bits : (F t : ℕ) → 771 ≤ F → F ≤ 1278 → t < 2 ^ 52 → toBits binary32 (narrow (root binary64 (ofFields binary64 false F t))) ≡ Bits (2 ^ 52 + t) (F + 1021)
+pub narrowed-bits : (F t : ℕ) → 771 ≤ F → F ≤ 1278 → t < 2 ^ 52 → toBits binary32 (narrowedRoot (ofFields binary64 false F t)) ≡ Bits (2 ^ 52 + t) (F + 1021)
 narrowed-bits zero t L U h = absurd (none L)
   where
     none : 771 ≤ 0 → ⊥
     none p = omega arith
 narrowed-bits (suc y) t L U h =
-    ap (λ (v : Float). toBits binary32 (narrow (root binary64 v))) (fields-suc binary64 false y t (omega arith)) ∙ units-bits (2 ^ 52 + t) y (omega arith) (omega arith) (omega arith) (omega arith)
+    ap (λ (v : Float). toBits binary32 (narrowedRoot v)) (fields-suc binary64 false y t (omega arith)) ∙ units-bits (2 ^ 52 + t) y (omega arith) (omega arith) (omega arith) (omega arith)

@@ -154,7 +154,7 @@ fn narrowed_of(m: u64, g: u64) -> u64
 
 // The square root of x as an `f64`, narrowed: `narrow(sqrt64(x))`, in less than half of its time.
 pub fn sqrt64_narrowed(x: f64) -> f32
-    ensures { λ r. ⌜ r ≡ Number.narrow (Number.root binary64 x) ⌝ }
+    ensures { λ r. ⌜ r ≡ Number.narrowedRoot x ⌝ }
 {
     if x != x {
         return 0.0 / 0.0;

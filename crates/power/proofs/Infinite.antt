@@ -20,10 +20,10 @@ use Rattle.laws.proofs.NotFinite.{add-beyond, beyond-add, mul-beyond, beyond-mu
 use Rattle.laws.proofs.NotNumber.{sub-nan, lt-nan}
 use Rattle.laws.proofs.Numbers.{all-numbers-at}
 use Rattle.laws.proofs.Zero.{Null}
-use Rattle.number.specs.Number.{narrow, root}
+use Rattle.number.specs.Number.{narrow, root, narrowedRoot}
 use Rattle.answers.specs.Numbers.{longest}
 use Rattle.power.specs.declared.Power.{Power}
-use Rattle.power.specs.Power.{sumTo, sumsTo, meanOf, activeOf, narrowedRoot, apparentOf, factorOf, aboveZero, reactiveOf, recordWith, recordOf}
+use Rattle.power.specs.Power.{sumTo, sumsTo, meanOf, activeOf, apparentOf, factorOf, aboveZero, reactiveOf, recordWith, recordOf}
 
 never : (i : ℕ) → i < 0 → ⊥
 never i h = omega arith

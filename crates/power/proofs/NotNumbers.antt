@@ -9,8 +9,8 @@ use lib.Ieee.{Float, nan, binary32, binary64, isNan, add, sub, mul, div, lt, ofB
 use Rattle.laws.specs.Walks.{over}
 use Rattle.laws.specs.Samples.{stillNumbers, numbersIn, allNumbers}
 use Rattle.laws.proofs.NotNumber.{tested-nan, add-nan, nan-add, mul-nan, nan-mul}
-use Rattle.number.specs.Number.{narrow, root}
-use Rattle.power.specs.Power.{sumTo, sumsTo, meanOf, activeOf, narrowedRoot, apparentOf, factorOf, aboveZero, reactiveOf, recordWith, recordOf, nanPower}
+use Rattle.number.specs.Number.{narrow, root, narrowedRoot}
+use Rattle.power.specs.Power.{sumTo, sumsTo, meanOf, activeOf, apparentOf, factorOf, aboveZero, reactiveOf, recordWith, recordOf, nanPower}
 
 -- ---- in a sum: of x with any other samples, on either side
 pub sum-nan : (x y : List Float) (n : ℕ) → over stillNumbers true x n ≡ false → (sumTo x y n ≡ nan) × (sumTo y x n ≡ nan)

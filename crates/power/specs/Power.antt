@@ -8,7 +8,7 @@ use lib.ListN.{length, getD}
 use lib.IntN.{pos}
 use lib.Ieee.{Float, nan, binary32, binary64, add, sub, mul, div, lt, ofInt, ofBits}
 use Rattle.laws.specs.Literals.{tiny32}
-use Rattle.number.specs.Number.{narrow, root}
+use Rattle.number.specs.Number.{narrow, narrowedRoot}
 use Rattle.answers.specs.declared.Outcome.{Outcome}
 use Rattle.answers.specs.declared.Outcome.the-variants.{Done, LengthsDiffer, TooLong}
 use Rattle.answers.specs.Numbers.{numberOf, tooLong, refuse}
@@ -37,11 +37,7 @@ meanOf t n = div binary64 t (ofInt binary64 (pos n))
 unfoldable pub activeOf : Sums → Float
 activeOf t = narrow (meanOf (t .vi) (t .count))
 
--- 01, "`compute_power` takes the f64 root and then narrows"
-unfoldable pub narrowedRoot : Float → Float
-narrowedRoot x = narrow (root binary64 x)
-
--- s, apparent power: the f32 product of the root mean squares of voltage and current
+-- s, apparent power: the f32 product of the root mean squares of voltage and current. 01, "`compute_power` takes the f64 root and then narrows"
 unfoldable pub apparentOf : Sums → Float
 apparentOf t = mul binary32 (narrowedRoot (meanOf (t .vv) (t .count))) (narrowedRoot (meanOf (t .ii) (t .count)))
 

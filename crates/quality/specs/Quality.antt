@@ -12,7 +12,7 @@ use Rattle.laws.specs.Harmonics.{squareOf}
 use Rattle.laws.specs.Literals.{zero32, zero64, hundred32, tiny32}
 use Rattle.laws.specs.Samples.{higher}
 use Rattle.laws.specs.Walks.{pairs}
-use Rattle.number.specs.Number.{narrow, root}
+use Rattle.number.specs.Number.{narrowedRoot}
 use Rattle.quality.specs.declared.Quotient.the-variants as Q
 use Rattle.quality.specs.declared.QuotientAnswer.{QuotientAnswer}
 use Rattle.quality.specs.declared.Sfdr.{Sfdr}
@@ -35,7 +35,7 @@ given Usable refused unusable usable = usable
 -- `compute_thd_from_spectrum` "sums every multiple of the fundamental", from order 2 on
 unfoldable pub thdOf : List Float → ℕ → Float
 thdOf s b =
-    cond (lt (getD s b nan) tiny32) zero32 (mul binary32 (div binary32 (narrow (root binary64 (powerIn s b 2))) (getD s b nan)) hundred32)
+    cond (lt (getD s b nan) tiny32) zero32 (mul binary32 (div binary32 (narrowedRoot (powerIn s b 2)) (getD s b nan)) hundred32)
 
 -- "a THD of 0.0 for a fundamental bin of 0 or past the end"
 unfoldable pub answerThd : List Float → ℕ → Measured

@@ -6,7 +6,7 @@ use lib.Count.{trailingZeros}
 use lib.Ieee.{Float, nan, inf, add, mul, div, sum, round, units, odd, size, span, climb, lt, ofInt, ofBits, ofFields}
 use Rattle.laws.specs.Harmonics.{squareOf, harmonicsOf, powerOf}
 use Rattle.laws.specs.Literals.{zero32, count32}
-use Rattle.number.specs.Number.{narrow, root, wholeRoot, rootIn}
+use Rattle.number.specs.Number.{narrow, root, narrowedRoot, wholeRoot, rootIn}
 use Rattle.quality.specs.Powers.{powerIn}
 use Rattle.quality.specs.Quality.{thdOf}
 
@@ -23,5 +23,5 @@ i = inf false
 pub unusual-bins : (thd (count32 4) (count32 3) (count32 1) ∷ thd n (count32 3) (count32 1) ∷ thd (count32 4) n (count32 1) ∷ thd (count32 4) (count32 3) n ∷ thd n n n
     ∷ thd i (count32 3) (count32 1) ∷ thd (count32 4) i (count32 1) ∷ thd (count32 4) (count32 3) i ∷ [])
     ≡ (count32 75 ∷ n ∷ n ∷ count32 75 ∷ n ∷ zero32 ∷ i ∷ count32 75 ∷ [])
-unfolding thdOf powerIn powerOf harmonicsOf squareOf narrow root wholeRoot rootIn add mul div sum round units odd size span climb trailingZeros lt ofInt ofBits ofFields
+unfolding thdOf powerIn powerOf harmonicsOf squareOf narrowedRoot narrow root wholeRoot rootIn add mul div sum round units odd size span climb trailingZeros lt ofInt ofBits ofFields
 unusual-bins = refl

@@ -14,9 +14,9 @@ use Rattle.laws.specs.Front.{onto}
 use Rattle.laws.specs.Literals.{count32}
 use Rattle.laws.specs.Samples.{higher, lower}
 use Rattle.laws.specs.Walks.{over, pairs}
-use Rattle.number.specs.Number.{narrow, root, wholeRoot, rootIn, abs}
+use Rattle.number.specs.Number.{narrow, root, wholeRoot, rootIn, abs, narrowedRoot}
 use Rattle.power.specs.declared.PowerAnswer.{PowerAnswer}
-use Rattle.power.specs.Power.{sumTo, meanOf, activeOf, narrowedRoot, apparentOf, factorOf, aboveZero, reactiveOf, recordOf, zeroPower, answered, powerOf, outcomeOf as powerOutcome, answerOf}
+use Rattle.power.specs.Power.{sumTo, meanOf, activeOf, apparentOf, factorOf, aboveZero, reactiveOf, recordOf, zeroPower, answered, powerOf, outcomeOf as powerOutcome, answerOf}
 use Rattle.timing.specs.Timing.{totalOf, meanOf as timingMean, risesAt, firstOf, crossingAt, crossingsOf, frequencyFrom, frequencyAbout, frequencyAnswer, slewAt, steepestOf, slewOf, slewAnswer}
 use Rattle.figures.specs.Levels.{maxOf, minOf}
 use Rattle.figures.specs.Edges.{riseBegins, riseCounts, fallBegins, fallCounts, edgeAt, edgesOf, lowThreshold, highThreshold}

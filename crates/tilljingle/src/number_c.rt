@@ -26,7 +26,7 @@ pub extern "C" fn tj_sqrt64(x: f64) -> f64
 
 #[no_mangle]
 pub extern "C" fn tj_sqrt64_narrowed(x: f64) -> f32
-    ensures { λ r. ⌜ r ≡ Number.narrow (Number.root binary64 x) ⌝ }
+    ensures { λ r. ⌜ r ≡ Number.narrowedRoot x ⌝ }
 {
     number::sqrt64_narrowed(x)
 }

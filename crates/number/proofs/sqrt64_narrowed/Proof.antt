@@ -9,7 +9,7 @@ use lib.Dec.{T}
 use lib.Ieee.{Float, binary32, binary64, fits, ofFields, toBits}
 use lib.Ieee.Bits.{toBits-lt}
 use borrow.Author.Needs.{needs}
-use Rattle.number.specs.Number.{narrow, root}
+use Rattle.number.specs.Number.{narrow, root, narrowedRoot}
 use Rattle.number.proofs.Fields.{fieldOf, digitsOf, digits-lt, written, written-no-nan}
 use Rattle.laws.proofs.Numbers.{is-nan, no-nan}
 use Rattle.number.proofs.NarrowBits.{narrow-fits, narrow-no-nan, of-nan}
@@ -35,21 +35,22 @@ field-is b h = and-mask (b / 2 ^ 52) 11 ∙ mod-eq-of-lt (omega arith)
 
 -- the bits of the answer, by those of x
 narrowed-at : (x : Float) → T (fits binary64 x) → 771 ≤ toBits binary64 x / 2 ^ 52 → toBits binary64 x / 2 ^ 52 ≤ 1278
-    → toBits binary32 (narrow (root binary64 x)) ≡ Bits (bitOr (digitsOf binary64 (toBits binary64 x)) (2 ^ 52)) (toBits binary64 x / 2 ^ 52 + 1021)
+    → toBits binary32 (narrowedRoot x) ≡ Bits (bitOr (digitsOf binary64 (toBits binary64 x)) (2 ^ 52)) (toBits binary64 x / 2 ^ 52 + 1021)
 narrowed-at x h l u =
     let b = toBits binary64 x in
     let t = digitsOf binary64 b in
-    ap (λ (v : Float). toBits binary32 (narrow (root binary64 v))) (sym (positive binary64 x h (no-sign b u)) ∙ ap (λ (F : ℕ). ofFields binary64 false F t) (field-is b u))
+    ap (λ (v : Float). toBits binary32 (narrowedRoot v)) (sym (positive binary64 x h (no-sign b u)) ∙ ap (λ (F : ℕ). ofFields binary64 false F t) (field-is b u))
     ∙ narrowed-bits (b / 2 ^ 52) t l u (digits-lt binary64 b)
     ∙ ap (λ (m : ℕ). Bits m (b / 2 ^ 52 + 1021)) (sym (lead t (digits-lt binary64 b)))
 
 -- the pattern that is made is the bits of the answer
-made : (c : tie.After-narrowed-of) → toBits binary32 (narrow (root binary64 (c .before .before .before .before .args .x))) ≡ c .narrowed-of .result
+made : (c : tie.After-narrowed-of) → toBits binary32 (narrowedRoot (c .before .before .before .before .args .x)) ≡ c .narrowed-of .result
 made c =
     let s = c .before .before .before .before in
     narrowed-at (s .args .x) (held s) (c .before .before .if2 .taken) (c .before .if3 .taken) ∙ sym (c .narrowed-of .ensures)
 
 returns : tie.Need-returns
+unfolding narrowedRoot
 returns c = of-nan (root binary64 (c .before .args .x)) (sym (root-nan binary64 (c .before .args .x) (is-nan (c .before .args .x) (c .if1 .taken))))
 
 float-to-bits-bits : tie.Need-float-to-bits-bits
@@ -68,11 +69,13 @@ narrowed-of-requires c κs =
     (omega arith, (omega arith, (omega arith, omega arith)))
 
 cast-result : tie.Need-cast-result
+unfolding narrowedRoot
 cast-result c =
-    let v = narrow (root binary64 (c .before .before .before .before .args .x)) in
-    record { fits = subst (λ (n : ℕ). n < 2 ^ 32) (made c) (toBits-lt binary32 v (narrow-fits (root binary64 (c .before .before .before .before .args .x)))) }
+    let x = c .before .before .before .before .args .x in
+    record { fits = subst (λ (n : ℕ). n < 2 ^ 32) (made c) (toBits-lt binary32 (narrowedRoot x) (narrow-fits (root binary64 x))) }
 
 float-from-bits-result : tie.Need-float-from-bits-result
+unfolding narrowedRoot
 float-from-bits-result c =
     let d = c .before .before .before in
     let x = d .before .args .x in
@@ -80,6 +83,7 @@ float-from-bits-result c =
     written-no-nan binary32 (narrow y) _ (narrow-fits y) (narrow-no-nan y (root-no-nan binary64 x (held (d .before)) (no-nan x (d .if1 .left)) (no-sign (toBits binary64 x) (c .before .if3 .taken)))) (made c)
 
 returns-2 : tie.Need-returns-2
+unfolding narrowedRoot
 returns-2 c =
     let y = root binary64 (c .before .before .before .before .args .x) in
     written binary32 (narrow y) _ (narrow-fits y) (made c)
@@ -91,6 +95,7 @@ narrow-requires : tie.Need-narrow-requires
 narrow-requires c κs = search needs
 
 returns-3 : tie.Need-returns-3
+unfolding narrowedRoot
 returns-3 c = c .narrow .ensures ∙ ap narrow (c .before .sqrt64 .ensures)
 
 pub sqrt64-narrowed-spec : {M : Type 1} → statement M

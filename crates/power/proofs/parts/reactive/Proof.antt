@@ -1,5 +1,5 @@
 -- `power::parts::reactive` meets its contract. Assumes nothing.
-use Rattle.power.specs.Power.{reactiveOf, narrowedRoot}
+use Rattle.power.specs.Power.{reactiveOf}
 use borrow.Author.Needs.{needs}
 use Rattle.power.proofs.parts.reactive.Statement.{statement}
 use Rattle.power.proofs.parts.reactive.Tie as tie
@@ -17,7 +17,7 @@ sqrt64-narrowed-requires : tie.Need-sqrt64-narrowed-requires
 sqrt64-narrowed-requires c κs = search needs
 
 returns : tie.Need-returns
-unfolding reactiveOf narrowedRoot
+unfolding reactiveOf
 returns c = rw (c .sqrt64-narrowed .ensures, c .before .above-zero .ensures, c .before .before .f32-to-f64-with-nan2 .ensures, c .before .before .before .f32-to-f64-with-nan .ensures)
 
 pub reactive-spec : {M : Type 1} → statement M
