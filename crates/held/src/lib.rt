@@ -2,11 +2,11 @@
 mod parts;
 
 ghost use mathlib.Core.Path.{_≡_};
-ghost use lib.Ieee.{binary32, mul};
 ghost use Rattle.signal.specs.State.{metricsOf};
 ghost use Rattle.signal.specs.Calls.{highest, newOf, portOf, phaseSet, dutySet, resetOf};
 ghost use Rattle.port.specs.Fields.{number, reading};
 ghost use Rattle.port.specs.Fields as Fields;
+ghost use Rattle.port.specs.Readings.{instantaneousPower};
 ghost use Rattle.held.specs.Held.{beside, after, withPort, withField, seen};
 use generator::Wave;
 use port::Port;
@@ -422,7 +422,7 @@ impl<'a> Signal<'a> {
     }
 
     pub fn instantaneous_power(&mut self) -> f32
-        ensures { λ r. ⌜ seen r (now (self .exit)) ≡ seen (mul binary32 (now (self .entry) .answer .state .port .voltage) (now (self .entry) .answer .state .port .current)) (now (self .entry)) ⌝ }
+        ensures { λ r. ⌜ seen r (now (self .exit)) ≡ seen (instantaneousPower (now (self .entry) .answer .state .port)) (now (self .entry)) ⌝ }
     {
         let port = self.answer.state.port;
         port.instantaneous_power()

@@ -1,10 +1,10 @@
--- Harmonic places, and the port that a reset gives. Definitions only.
+-- Harmonic places, instantaneous power, and the port that a reset gives. Definitions only.
 use mathlib.Core.Bool.{true, false, cond}
 use mathlib.Core.List.{List}
 use Prim.Native.Nat.{ℕ}
 use lib.Dec.{ltb}
 use lib.ListN.{set, getD, replicate}
-use lib.Ieee.{nan}
+use lib.Ieee.{Float, binary32, nan, mul}
 use Rattle.laws.specs.Literals.{zero32, zero64}
 use Rattle.port.specs.declared.Reading.{Reading}
 use Rattle.port.specs.declared.Reading.the-variants.{Number, Absent}
@@ -20,6 +20,11 @@ placeOf h n = cond (ltb n 16) (getD h n (record { reading = Number nan }) .readi
 -- the places with v at n
 abbrev pub withPlace : List Slot → ℕ → Reading → List Slot
 withPlace h n v = cond (ltb n 16) (set h n (record { reading = v })) h
+
+-- ---- 01, item 9, `instantaneous_power`: the Rust's `self.voltage * self.current`, in f32
+
+abbrev pub instantaneousPower : Port → Float
+instantaneousPower p = mul binary32 (p .voltage) (p .current)
 
 -- ---- 01, item 9, `reset_power_params`: the Rust's defaults
 

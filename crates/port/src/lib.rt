@@ -1,9 +1,8 @@
 // The readings of an electrical port, by value: each setting takes the port and gives it back.
 ghost use mathlib.Core.Path.{_≡_};
-ghost use lib.Ieee.{binary32, mul};
 ghost use Rattle.port.specs.Fields.{put, number, reading, places, flag};
 ghost use Rattle.port.specs.Fields as Fields;
-ghost use Rattle.port.specs.Readings.{placeOf, withPlace, cleared};
+ghost use Rattle.port.specs.Readings.{placeOf, withPlace, instantaneousPower, cleared};
 
 // A reading is a number or absent.
 pub enum Reading {
@@ -453,7 +452,7 @@ impl Port {
 
     // Voltage times current, in watts.
     pub fn instantaneous_power(self) -> f32
-        ensures { λ r. ⌜ r ≡ mul binary32 (self .voltage) (self .current) ⌝ }
+        ensures { λ r. ⌜ r ≡ instantaneousPower self ⌝ }
     {
         self.voltage * self.current
     }

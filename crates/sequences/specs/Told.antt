@@ -1,9 +1,10 @@
 -- What a sequence that ends in a reading hands out, and a setting of the port on what the calls before left. Definitions only.
 use mathlib.Core.List.{List}
-use lib.Ieee.{Float, binary32, mul}
+use lib.Ieee.{Float}
 use Rattle.signal.specs.declared.State.{State}
 use Rattle.signal.specs.Calls.{Left, left}
 use Rattle.port.specs.Fields.{put, number, at-voltage}
+use Rattle.port.specs.Readings.{instantaneousPower}
 use Rattle.held.specs.Held.{swapped}
 
 -- what was read, and the samples
@@ -22,6 +23,6 @@ partOf part l = told (part (l .answer .state)) (l .places)
 abbrev pub withVoltage : Float → Left → Left
 withVoltage v l = left (swapped (l .answer) (put (l .answer .state .port) at-voltage (number v))) (l .places)
 
--- the Rust's `instantaneous_power`
+-- 01, item 9, `instantaneous_power`: of the state's port
 abbrev pub powerOf : State → Float
-powerOf s = mul binary32 (s .port .voltage) (s .port .current)
+powerOf s = instantaneousPower (s .port)

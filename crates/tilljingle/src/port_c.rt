@@ -1,8 +1,7 @@
 // The calls of port readings that do more than read or set a field. A port crosses as a flat record, a reading as a flag and a value.
 ghost use mathlib.Core.Path.{_≡_};
-ghost use lib.Ieee.{binary32, mul};
 ghost use Rattle.port.specs.Fields.{put, places, at-voltage-harmonics, at-current-harmonics};
-ghost use Rattle.port.specs.Readings.{placeOf, withPlace, cleared};
+ghost use Rattle.port.specs.Readings.{placeOf, withPlace, instantaneousPower, cleared};
 ghost use Rattle.crossing.specs.PortCrossing.{readingIn, readingOut, portIn, portOut};
 use crossing::ports::TjPort;
 use crossing::ports::port_in;
@@ -13,7 +12,7 @@ use crossing::readings::reading_out;
 
 #[no_mangle]
 pub extern "C" fn tj_instantaneous_power(port: TjPort) -> f32
-    ensures { λ r. ⌜ r ≡ mul binary32 (port .voltage) (port .current) ⌝ }
+    ensures { λ r. ⌜ r ≡ instantaneousPower (portIn port) ⌝ }
 {
     port_in(port).instantaneous_power()
 }
