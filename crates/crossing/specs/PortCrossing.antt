@@ -13,7 +13,7 @@ use Rattle.crossing.specs.declared.ports.TjPort.{TjPort}
 abbrev pub readingIn : TjReading → Reading
 readingIn r = cond (r .present) (Number (r .value)) Absent
 
--- 01, "What a refusal returns is zero throughout (a reading absent)": an absent reading has the value 0
+-- our decision for the boundary, of which 01 says nothing: an absent reading goes out with the value 0
 abbrev pub readingOut : Reading → TjReading
 readingOut (Number x) = record { present = true; value = x }
 readingOut Absent = record { present = false; value = zero32 }

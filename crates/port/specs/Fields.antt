@@ -1,4 +1,5 @@
--- A port as the list of its fields: that a call sets one field and leaves all others is that it sets one place of the list. Definitions only.
+-- A port as the list of its fields (01, item 9, "Port readings: setters, getters, limits"): that a call sets one field and leaves all others is that it sets one
+-- place of the list. Definitions only.
 use mathlib.Core.Bool.{Bool, false}
 use mathlib.Core.List.{List, [], _∷_}
 use Prim.Native.Nat.{ℕ}
@@ -9,7 +10,7 @@ use Rattle.port.specs.declared.Reading.the-variants.{Absent}
 use Rattle.port.specs.declared.Slot.{Slot}
 use Rattle.port.specs.declared.Port.{Port}
 
--- what a field holds
+-- what a field holds; "A reading is a number or absent"
 pub data Cell : Type 0 where
   number : Float → Cell
   reading : Reading → Cell
@@ -62,6 +63,7 @@ at-voltage-crest-factor = 13
 abbrev pub at-current-crest-factor : ℕ
 at-current-crest-factor = 14
 
+-- "Harmonic places are 0 to 15; a higher one reads absent and setting it does nothing": the 16 are one field, and `Readings.antt` says what one place is
 abbrev pub at-voltage-harmonics : ℕ
 at-voltage-harmonics = 15
 
@@ -185,6 +187,6 @@ portOf l = record {
   temperature = slotIn (cellAt l at-temperature);
 }
 
--- p with the field at i set to x, and all others as they were
+-- 01, item 9, what each setter does: p with the field at i set to x, and all others as they were
 abbrev pub put : Port → ℕ → Cell → Port
 put p i x = portOf (set (cells p) i x)

@@ -76,6 +76,7 @@ fn shorter(a: usize, b: usize) -> usize
     if a < b { a } else { b }
 }
 
+// The sum at one place.
 fn sum_at(a: &[f32], b: &[f32], place: usize) -> f32
     requires { ⌜ (place < length (now a)) × (place < length (now b)) ⌝ }
     ensures { λ r. ⌜ r ≡ sumAt (now (a .entry)) (now (b .entry)) place ⌝ }

@@ -1,4 +1,5 @@
--- Later calls, one after another, each on what the call before left behind. Definitions only.
+-- Later calls, one after another, each on what the call before left behind. 01, 'How much a contract has to say', what must not pass: "a `Signal` right at
+-- `new` that only pretends at later settings (demand 2, call by call)". Definitions only.
 use Prim.Native.Nat.{ℕ}
 use mathlib.Core.List.{List, [], _∷_}
 use lib.Ieee.{Float}
@@ -17,11 +18,13 @@ pub data Later : Type 0 where
   setting : Setting → Later
   reset : Later
 
+-- one of them, on what is left before it
 abbrev pub next : ℕ → Left → Later → Left
 next top l (setting (phase p)) = phaseSet top (l .answer .state) p (l .places)
 next top l (setting (duty d)) = dutySet top (l .answer .state) d (l .places)
 next top l reset = resetOf (l .answer .state) (l .places)
 
+-- all of them, "call by call"
 abbrev pub run : ℕ → Left → List Later → Left
 run top l [] = l
 run top l (c ∷ cs) = run top (next top l c) cs

@@ -1,4 +1,6 @@
-// The C boundary: one thin export for each public call of the library, as include/tilljingle.h declares them. A file for each part.
+// The C boundary, as include/tilljingle.h declares it. One thin export for each call of number, samples, timing, power, codes, figures, spectrum, quality,
+// capture, writing and reporting, for `generate_samples`, for signal's calls but `get_metrics` (figures and THD are fields), and for the calls on a port that do
+// more than read or set fields; harmonics are also read and set in place. A file for each part.
 pub mod capture_c;
 pub mod figures_c;
 pub mod generator_c;
