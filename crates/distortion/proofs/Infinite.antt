@@ -13,7 +13,8 @@ use lib.ListN.{length, getD}
 use lib.Ieee.{Float, nan, inf, fin, Format, binary32, binary64, mul, div, round, neg, lt, ofBits}
 use lib.Ieee.Scale.{finite}
 use Rattle.laws.specs.Harmonics.{squareOf, harmonicsOf, powerOf, lastUpTo}
-use Rattle.laws.specs.Literals.{zero32, zero64, hundred32}
+use Rattle.laws.specs.Literals.{zero32, zero64}
+use Rattle.laws.specs.Quotients.{percentOf}
 use Rattle.laws.proofs.NotFinite.{add-beyond, beyond-add, beyond-mul, beyond-div}
 use Rattle.number.specs.Number.{narrow, root, narrowedRoot}
 use Rattle.quarter.specs.Table.{quarterTable}
@@ -46,7 +47,7 @@ size-beyond s n h =
 abbrev pub besideInf : ℕ → Float
 besideInf last = cond (ltb 1 last) nan zero32
 
-quotient : (w : Float) → finite w ≡ false → mul binary32 (div binary32 w (inf false)) hundred32 ≡ nan
+quotient : (w : Float) → finite w ≡ false → percentOf w (inf false) ≡ nan
 unfolding mul div
 quotient nan h = refl
 quotient (inf s) h = refl

@@ -4,9 +4,10 @@ use mathlib.Core.Bool.{true, false}
 use mathlib.Core.List.{List}
 use Prim.Native.Nat.{ℕ, _/_}
 use lib.ListN.{length}
-use lib.Ieee.{Float, binary32, mul, div, lt}
+use lib.Ieee.{Float, lt}
 use Rattle.laws.specs.Harmonics.{powerOf, lastUpTo}
-use Rattle.laws.specs.Literals.{hundred32, tiny32}
+use Rattle.laws.specs.Literals.{tiny32}
+use Rattle.laws.specs.Quotients.{percentOf}
 use Rattle.number.specs.Number.{narrowedRoot}
 use Rattle.spectrum.specs.Bin.{magnitudeOf}
 use Rattle.distortion.specs.Thd.{binOf, usable, thdFrom, thdAt, thdOf}
@@ -14,7 +15,7 @@ use Rattle.distortion.specs.Thd.{binOf, usable, thdFrom, thdAt, thdOf}
 module _ (top : ℕ) (earlier : Float) (xs : List Float) where
   -- the fundamental is heard, or silent
   pub heard : (bin last : ℕ) (f p w : Float) → f ≡ magnitudeOf xs bin → lt tiny32 f ≡ true → last ≡ lastUpTo top (length xs / 2) bin → p ≡ powerOf (magnitudeOf xs) bin 2 last
-      → w ≡ narrowedRoot p → mul binary32 (div binary32 w f) hundred32 ≡ thdAt top bin earlier xs
+      → w ≡ narrowedRoot p → percentOf w f ≡ thdAt top bin earlier xs
   unfolding thdAt thdFrom
   heard bin last f p w ef t el ep ew = rw (← ef, t, ew, ep, el)
 

@@ -6,7 +6,8 @@ use lib.Dec.{ltb}
 use lib.ListN.{length}
 use lib.Ieee.{Float, binary32, mul, div, lt, toUnsigned}
 use Rattle.laws.specs.Harmonics.{powerOf, lastUpTo}
-use Rattle.laws.specs.Literals.{zero32, hundred32, tiny32, count32}
+use Rattle.laws.specs.Literals.{zero32, tiny32, count32}
+use Rattle.laws.specs.Quotients.{percentOf}
 use Rattle.number.specs.Number.{narrowedRoot, roundAway}
 use Rattle.spectrum.specs.Bin.{magnitudeOf}
 
@@ -21,7 +22,7 @@ usable frequency half bin = ltb 1 half && (lt zero32 frequency && (ltb 0 bin && 
 
 -- the Rust's `(sqrt(power) as f32 / fundamental) * 100.0`; 01, where "its magnitude isn't above 1e-12, `Signal` keeps its earlier THD"
 unfoldable pub thdFrom : Float → Float → Float → Float
-thdFrom fundamental power earlier = cond (lt tiny32 fundamental) (mul binary32 (div binary32 (narrowedRoot power) fundamental) hundred32) earlier
+thdFrom fundamental power earlier = cond (lt tiny32 fundamental) (percentOf (narrowedRoot power) fundamental) earlier
 
 -- 01, "THD in `Signal` uses orders up to 16 and bins below half": the harmonics from order 2 on
 unfoldable pub thdAt : ℕ → ℕ → Float → List Float → Float

@@ -1,7 +1,8 @@
 -- Figures of other figures: quotients that are 0 where their divisor is too small (the Rust's steps 3, 6, 7 and 9). Definitions only.
 use mathlib.Core.Bool.{cond, _&&_}
-use lib.Ieee.{Float, binary32, sub, mul, div, lt}
-use Rattle.laws.specs.Literals.{zero32, one32, hundred32, tiny32}
+use lib.Ieee.{Float, binary32, sub, div, lt}
+use Rattle.laws.specs.Literals.{zero32, one32, tiny32}
+use Rattle.laws.specs.Quotients.{percentOf}
 use Rattle.laws.specs.Samples.{higher}
 use Rattle.number.specs.Number.{abs}
 
@@ -20,4 +21,4 @@ periodOf frequency = cond (lt zero32 frequency) (div binary32 one32 frequency) z
 -- how far x lies above the limit, in percent of the swing; 0 where it does not, or the swing is not above 1e-12
 unfoldable pub excessOf : Float → Float → Float → Float
 excessOf x limit swing =
-    cond (lt tiny32 swing && lt limit x) (mul binary32 (div binary32 (sub binary32 x limit) swing) hundred32) zero32
+    cond (lt tiny32 swing && lt limit x) (percentOf (sub binary32 x limit) swing) zero32

@@ -5,4 +5,5 @@ pub mod Samples
 pub mod Filled
 pub mod Front
 pub mod Literals
+pub mod Quotients
 pub mod Harmonics

@@ -4,12 +4,13 @@ use mathlib.Core.Bool.{cond}
 use mathlib.Core.List.{List}
 use lib.Dec.{ltb, eqb}
 use lib.ListN.{length, getD}
-use lib.Ieee.{Float, nan, binary32, binary64, sub, mul, div, lt, ofBits}
+use lib.Ieee.{Float, nan, binary32, binary64, sub, div, lt, ofBits}
 use Rattle.answers.specs.declared.Measured.{Measured}
 use Rattle.answers.specs.declared.Outcome.the-variants.{Done, TooLong}
 use Rattle.answers.specs.Numbers.{tooLong}
 use Rattle.laws.specs.Harmonics.{squareOf}
-use Rattle.laws.specs.Literals.{zero32, zero64, hundred32, tiny32}
+use Rattle.laws.specs.Literals.{zero32, zero64, tiny32}
+use Rattle.laws.specs.Quotients.{percentOf}
 use Rattle.laws.specs.Samples.{higher}
 use Rattle.laws.specs.Walks.{pairs}
 use Rattle.number.specs.Number.{narrowedRoot}
@@ -31,11 +32,11 @@ given Refused refused unusable usable = refused
 given Unusable refused unusable usable = unusable
 given Usable refused unusable usable = usable
 
--- ---- distortion in percent: the root of the harmonics' power, narrowed, over the fundamental, times 100; 0 for a fundamental below 1e-12.
+-- ---- distortion in percent: the root of the harmonics' power, narrowed, in percent of the fundamental; 0 for a fundamental below 1e-12.
 -- `compute_thd_from_spectrum` "sums every multiple of the fundamental", from order 2 on
 unfoldable pub thdOf : List Float → ℕ → Float
 thdOf s b =
-    cond (lt (getD s b nan) tiny32) zero32 (mul binary32 (div binary32 (narrowedRoot (powerIn s b 2)) (getD s b nan)) hundred32)
+    cond (lt (getD s b nan) tiny32) zero32 (percentOf (narrowedRoot (powerIn s b 2)) (getD s b nan))
 
 -- "a THD of 0.0 for a fundamental bin of 0 or past the end"
 unfoldable pub answerThd : List Float → ℕ → Measured
