@@ -11,7 +11,8 @@ use lib.Ieee.Fits.{mul-fits, up-pos, down-pos}
 use lib.Ieee.Scale.{finite}
 use lib.Ieee.Positive.{num, den, den-pos}
 use Rattle.number.specs.Number.{narrowedRoot}
-use Rattle.power.specs.Power.{factorOf, aboveZero}
+use Rattle.power.specs.Power.{aboveZero}
+use Rattle.laws.specs.Quotients.{ratioOrZero}
 use Rattle.laws.specs.Whole.{gap, signed, value}
 use Rattle.accuracy.specs.Accuracy.{Within, sign}
 use Rattle.laws.proofs.Ratio.{Ratio, after, weaken}
@@ -178,12 +179,12 @@ minus-none p w N h e =
     }
 
 -- ---- the power factor
-pub factor-some : (p s : Float) (B : ℕ) → Signed s false → SizeOf s (2 ^ 23) B → factorOf p s ≡ div binary32 p s
-unfolding factorOf
+pub factor-some : (p s : Float) (B : ℕ) → Signed s false → SizeOf s (2 ^ 23) B → ratioOrZero p s ≡ div binary32 p s
+unfolding ratioOrZero
 factor-some p s B h z = ap (λ (b : Bool). cond b (div binary32 p s) (ofBits binary32 0)) (above-tiny s B h z)
 
-pub factor-none : (p s : Float) → Null s → factorOf p s ≡ ofBits binary32 0
-unfolding factorOf
+pub factor-none : (p s : Float) → Null s → ratioOrZero p s ≡ ofBits binary32 0
+unfolding ratioOrZero
 factor-none p s h = ap (λ (b : Bool). cond b (div binary32 p s) (ofBits binary32 0)) (ap (λ (x : Float). lt x s) tiny-is ∙ lt-null 2305843 (negsuc 60) s h)
 
 pub zero32-null : Null (ofBits binary32 0)

@@ -11,6 +11,7 @@ use lib.Ieee.{Float, nan, inf, binary32, add, sub, mul, div, neg, lt, le, ofBits
 use Rattle.generator.specs.declared.Wave.{Wave}
 use Rattle.generator.specs.declared.Wave.the-variants.{DC, PWM, Triangular, Sawtooth}
 use Rattle.laws.specs.Literals.{zero32, zero64, count32}
+use Rattle.laws.specs.Quotients.{ratioOrZero}
 use Rattle.laws.specs.Samples.{higher, lower}
 use Rattle.laws.specs.Walks.{over, pairs}
 use Rattle.laws.proofs.NotNumber.{sub-nan, nan-sub, lt-nan, nan-lt, le-nan, nan-le}
@@ -20,7 +21,7 @@ use Rattle.figures.specs.declared.edges.Edges.{Edges}
 use Rattle.figures.specs.Levels.{maxOf, minOf, adding, sumOf, square, away, averageOf, rectifiedOf, dcRmsOf, acRmsOf}
 use Rattle.figures.specs.Duty.{millionth, near, isHigh, tally, highsOf}
 use Rattle.figures.specs.Edges.{noEdge, riseBegins, riseCounts, fallBegins, fallCounts, edgeAt, edgesOf}
-use Rattle.figures.specs.Ratios.{ratioOf, crestOf, periodOf, excessOf}
+use Rattle.figures.specs.Ratios.{crestOf, periodOf, excessOf}
 use Rattle.figures.proofs.NanSums.{by-then}
 use Rattle.figures.specs.Figures.{peakToPeakOf, positivePeakOf, negativePeakOf, crestFactorOf, formFactorOf, hertzOf, slewRateOf, overshootOf, undershootOf}
 
@@ -113,11 +114,11 @@ module _ (xs ys : List Float) where
 
   -- what is divided by one of them, or counts crossings of one, is 0
   pub nan-crest : crestFactorOf (withNan xs ys) ≡ zero32
-  unfolding crestOf ratioOf
+  unfolding crestOf ratioOrZero
   nan-crest = rw (nan-dc-rms, lt-nan)
 
   pub nan-form : formFactorOf (withNan xs ys) ≡ zero32
-  unfolding ratioOf
+  unfolding ratioOrZero
   nan-form = rw (nan-rectified, lt-nan)
 
   no-crossing : (zs : List Float) (k : ℕ) → pairs (crossingAt nan) noCrossing zs k ≡ noCrossing

@@ -5,6 +5,7 @@ use lib.ListN.{length}
 use lib.Ieee.{Float, binary32, sub, neg}
 use Rattle.generator.specs.declared.Wave.{Wave}
 use Rattle.laws.specs.Literals.{one32, count32}
+use Rattle.laws.specs.Quotients.{ratioOrZero}
 use Rattle.number.specs.Number.{root}
 use Rattle.timing.specs.Timing.{meanOf, frequencyAbout, slewOf}
 use Rattle.figures.specs.declared.levels.Extremes.{Extremes}
@@ -15,7 +16,7 @@ use Rattle.figures.specs.declared.TimeFigures.{TimeFigures}
 use Rattle.figures.specs.Levels.{extremesOf, sumsOf, rippleOf, averageOf, rectifiedOf, dcRmsOf, acRmsOf, levelsOf}
 use Rattle.figures.specs.Duty.{dutyOf}
 use Rattle.figures.specs.Edges.{timesOf}
-use Rattle.figures.specs.Ratios.{ratioOf, crestOf, periodOf, excessOf}
+use Rattle.figures.specs.Ratios.{crestOf, periodOf, excessOf}
 use Rattle.figures.specs.Figures.{figuresOf}
 
 -- ---- the levels
@@ -60,7 +61,7 @@ pub figures-whole : (wave : Wave) (amplitude frequency : Float) (xs : List Float
     → l ≡ levelsOf xs → duty ≡ dutyOf wave amplitude xs
     → times ≡ timesOf (l .min) (sub binary32 (l .max) (l .min)) frequency xs
     → rate ≡ count32 (length xs) → hertz ≡ frequencyAbout (l .average) xs rate → slew ≡ slewOf xs rate
-    → crest ≡ crestOf (l .max) (l .min) (l .«dc_rms») → period ≡ periodOf hertz → form ≡ ratioOf (l .«dc_rms») (l .rectified)
+    → crest ≡ crestOf (l .max) (l .min) (l .«dc_rms») → period ≡ periodOf hertz → form ≡ ratioOrZero (l .«dc_rms») (l .rectified)
     → over ≡ excessOf (l .max) amplitude (sub binary32 (l .max) (l .min)) → under ≡ excessOf (neg amplitude) (l .min) (sub binary32 (l .max) (l .min))
     → figuresWith l amplitude duty times crest hertz period form over under slew ≡ figuresOf wave amplitude frequency xs
 unfolding figuresOf

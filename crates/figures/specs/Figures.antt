@@ -10,13 +10,14 @@ use Rattle.answers.specs.declared.Outcome.the-variants.{Done, TooLong}
 use Rattle.answers.specs.Numbers.{tooLong}
 use Rattle.generator.specs.declared.Wave.{Wave}
 use Rattle.laws.specs.Literals.{one32, count32}
+use Rattle.laws.specs.Quotients.{ratioOrZero}
 use Rattle.timing.specs.Timing.{frequencyAbout, slewOf}
 use Rattle.figures.specs.declared.TimeFigures.{TimeFigures}
 use Rattle.figures.specs.declared.TimeAnswer.{TimeAnswer}
 use Rattle.figures.specs.Levels.{maxOf, minOf, averageOf, dcRmsOf, acRmsOf, rectifiedOf}
 use Rattle.figures.specs.Duty.{dutyOf}
 use Rattle.figures.specs.Edges.{timesOf}
-use Rattle.figures.specs.Ratios.{ratioOf, crestOf, periodOf, excessOf}
+use Rattle.figures.specs.Ratios.{crestOf, periodOf, excessOf}
 
 -- ---- of the levels: max, min, average, dc_rms and ac_rms are those of Levels.antt
 
@@ -31,7 +32,7 @@ negativePeakOf xs = sub binary32 (averageOf xs) (minOf xs)
 
 -- the RMS over the rectified mean
 abbrev pub formFactorOf : List Float → Float
-formFactorOf xs = ratioOf (dcRmsOf xs) (rectifiedOf xs)
+formFactorOf xs = ratioOrZero (dcRmsOf xs) (rectifiedOf xs)
 
 abbrev pub crestFactorOf : List Float → Float
 crestFactorOf xs = crestOf (maxOf xs) (minOf xs) (dcRmsOf xs)

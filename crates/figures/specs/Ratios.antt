@@ -2,17 +2,13 @@
 use mathlib.Core.Bool.{cond, _&&_}
 use lib.Ieee.{Float, binary32, sub, div, lt}
 use Rattle.laws.specs.Literals.{zero32, one32, tiny32}
-use Rattle.laws.specs.Quotients.{percentOf}
+use Rattle.laws.specs.Quotients.{ratioOrZero, percentOf}
 use Rattle.laws.specs.Samples.{higher}
 use Rattle.number.specs.Number.{abs}
 
--- 0 where b is not above 1e-12, a NaN included
-unfoldable pub ratioOf : Float → Float → Float
-ratioOf a b = cond (lt tiny32 b) (div binary32 a b) zero32
-
 -- the larger size of the extremes, over the RMS
 unfoldable pub crestOf : Float → Float → Float → Float
-crestOf max min rms = ratioOf (higher (abs max) (abs min)) rms
+crestOf max min rms = ratioOrZero (higher (abs max) (abs min)) rms
 
 -- 0 where the frequency is not above 0
 unfoldable pub periodOf : Float → Float

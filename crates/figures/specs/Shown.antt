@@ -8,6 +8,7 @@ use lib.Ieee.{Float, nan, inf, binary32, binary64, add, sub, mul, div, neg, lt, 
 use Rattle.generator.specs.declared.Wave.{Wave}
 use Rattle.generator.specs.declared.Wave.the-variants.{DC, PWM}
 use Rattle.laws.specs.Literals.{count32, count64}
+use Rattle.laws.specs.Quotients.{ratioOrZero}
 use Rattle.laws.specs.Samples.{higher, lower}
 use Rattle.laws.specs.Walks.{over, pairs}
 use Rattle.number.specs.Number.{narrow, root, narrowedRoot, abs}
@@ -16,7 +17,7 @@ use Rattle.figures.specs.declared.TimeFigures.{TimeFigures}
 use Rattle.figures.specs.Levels.{maxOf, minOf, square, sumOf, averageOf, rectifiedOf, dcRmsOf, acRmsOf}
 use Rattle.figures.specs.Duty.{near, highsOf, dutyOf}
 use Rattle.figures.specs.Edges.{riseBegins, riseCounts, fallBegins, fallCounts, edgeAt, edgesOf, sampleTimeOf, timesOf}
-use Rattle.figures.specs.Ratios.{ratioOf, crestOf, periodOf, excessOf}
+use Rattle.figures.specs.Ratios.{crestOf, periodOf, excessOf}
 use Rattle.figures.specs.Figures.{figuresOf}
 
 -- ---- whole records
@@ -98,7 +99,7 @@ records =
     ∷ []
 
 pub records-hold : map (λ (w : Whole). fields (figuresOf (w .wave) (w .amplitude) (w .frequency) (w .samples))) records ≡ map (λ (w : Whole). w .figures) records
-unfolding over pairs higher lower totalOf meanOf risesAt firstOf crossingAt crossingsOf frequencyFrom frequencyAbout slewAt steepestOf slewOf maxOf minOf sumOf averageOf rectifiedOf dcRmsOf acRmsOf near highsOf dutyOf riseBegins riseCounts fallBegins fallCounts edgeAt edgesOf sampleTimeOf timesOf ratioOf crestOf periodOf excessOf figuresOf narrow root abs add sub mul div neg lt le ofInt ofBits
+unfolding over pairs higher lower totalOf meanOf risesAt firstOf crossingAt crossingsOf frequencyFrom frequencyAbout slewAt steepestOf slewOf maxOf minOf sumOf averageOf rectifiedOf dcRmsOf acRmsOf near highsOf dutyOf riseBegins riseCounts fallBegins fallCounts edgeAt edgesOf sampleTimeOf timesOf ratioOrZero crestOf periodOf excessOf figuresOf narrow root abs add sub mul div neg lt le ofInt ofBits
 records-hold = refl
 
 -- ---- 01: "One RMS for the record and for power: the two round in different places." Of 0, 0, 5 the record's, which narrows the mean square and then takes

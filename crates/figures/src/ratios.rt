@@ -1,10 +1,11 @@
 // Figures of other figures.
 ghost use mathlib.Core.Path.{_≡_};
-ghost use Rattle.figures.specs.Ratios.{ratioOf, crestOf, periodOf, excessOf};
+ghost use Rattle.laws.specs.Quotients.{ratioOrZero};
+ghost use Rattle.figures.specs.Ratios.{crestOf, periodOf, excessOf};
 
 // a / b; 0 where b is not above 1e-12, a NaN included.
 pub fn ratio(a: f32, b: f32) -> f32
-    ensures { λ r. ⌜ r ≡ ratioOf a b ⌝ }
+    ensures { λ r. ⌜ r ≡ ratioOrZero a b ⌝ }
 {
     if b > 1e-12 { a / b } else { 0.0 }
 }

@@ -15,6 +15,7 @@ use lib.Ieee.Exact.{HasValue}
 use lib.Ieee.Positive.{above}
 use lib.Ieee.Scale.{finite, overflow}
 use Rattle.laws.specs.Literals.{zero32, zero64}
+use Rattle.laws.specs.Quotients.{ratioOrZero}
 use Rattle.laws.specs.Samples.{allNumbers}
 use Rattle.laws.proofs.NotFinite.{add-beyond, beyond-add, mul-beyond, beyond-mul}
 use Rattle.laws.proofs.NotNumber.{sub-nan, lt-nan}
@@ -23,7 +24,7 @@ use Rattle.laws.proofs.Zero.{Null}
 use Rattle.number.specs.Number.{narrow, root, narrowedRoot}
 use Rattle.answers.specs.Numbers.{longest}
 use Rattle.power.specs.declared.Power.{Power}
-use Rattle.power.specs.Power.{sumTo, sumsTo, meanOf, activeOf, apparentOf, factorOf, aboveZero, reactiveOf, recordWith, recordOf}
+use Rattle.power.specs.Power.{sumTo, sumsTo, meanOf, activeOf, apparentOf, aboveZero, reactiveOf, recordWith, recordOf}
 
 never : (i : ℕ) → i < 0 → ⊥
 never i h = omega arith
@@ -173,14 +174,14 @@ no-reactive (inf b) s h = no-root (sub binary64 (mul binary64 s s) (mul binary64
 no-reactive (fin t m e) s h = absurd (subst T h tt)
 
 -- ---- pf is a NaN where s is infinite too, and 0 where s is a NaN
-over-inf : (p : Float) → finite p ≡ false → factorOf p (inf false) ≡ nan
-unfolding factorOf div lt ofBits
+over-inf : (p : Float) → finite p ≡ false → ratioOrZero p (inf false) ≡ nan
+unfolding ratioOrZero div lt ofBits
 over-inf nan h = refl
 over-inf (inf s) h = refl
 over-inf (fin s m e) h = absurd (subst T h tt)
 
-over-nan : (p : Float) → factorOf p nan ≡ zero32
-unfolding factorOf
+over-nan : (p : Float) → ratioOrZero p nan ≡ zero32
+unfolding ratioOrZero
 over-nan p = rw lt-nan
 
 -- an infinity times a root mean square: above 0 it is an infinity, and at 0 a NaN

@@ -6,11 +6,12 @@ use mathlib.Core.List.{List}
 use lib.Dec.{T}
 use lib.ListN.{length, getD}
 use lib.Ieee.{Float, nan, binary32, binary64, isNan, add, sub, mul, div, lt, ofBits}
+use Rattle.laws.specs.Quotients.{ratioOrZero}
 use Rattle.laws.specs.Walks.{over}
 use Rattle.laws.specs.Samples.{stillNumbers, numbersIn, allNumbers}
 use Rattle.laws.proofs.NotNumber.{tested-nan, add-nan, nan-add, mul-nan, nan-mul}
 use Rattle.number.specs.Number.{narrow, root, narrowedRoot}
-use Rattle.power.specs.Power.{sumTo, sumsTo, meanOf, activeOf, apparentOf, factorOf, aboveZero, reactiveOf, recordWith, recordOf, nanPower}
+use Rattle.power.specs.Power.{sumTo, sumsTo, meanOf, activeOf, apparentOf, aboveZero, reactiveOf, recordWith, recordOf, nanPower}
 
 -- ---- in a sum: of x with any other samples, on either side
 pub sum-nan : (x y : List Float) (n : ℕ) → over stillNumbers true x n ≡ false → (sumTo x y n ≡ nan) × (sumTo y x n ≡ nan)
@@ -24,7 +25,7 @@ sum-nan x y (suc n) e = go (over stillNumbers true x n) (sumTo x y n) (sumTo y x
 
 -- ---- in the record
 both-nan : recordWith nan nan ≡ nanPower
-unfolding reactiveOf narrowedRoot aboveZero factorOf narrow root mul sub add lt ofBits
+unfolding reactiveOf narrowedRoot aboveZero ratioOrZero narrow root mul sub add lt ofBits
 both-nan = refl
 
 root-nan : (n : ℕ) → narrowedRoot (meanOf nan n) ≡ nan

@@ -7,11 +7,11 @@ use lib.Dec.{eqb}
 use lib.ListN.{length, getD}
 use lib.IntN.{pos}
 use lib.Ieee.{Float, nan, binary32, binary64, add, sub, mul, div, lt, ofInt, ofBits}
-use Rattle.laws.specs.Literals.{tiny32}
 use Rattle.number.specs.Number.{narrow, narrowedRoot}
 use Rattle.answers.specs.declared.Outcome.{Outcome}
 use Rattle.answers.specs.declared.Outcome.the-variants.{Done, LengthsDiffer, TooLong}
 use Rattle.answers.specs.Numbers.{numberOf, tooLong, refuse}
+use Rattle.laws.specs.Quotients.{ratioOrZero}
 use Rattle.power.specs.declared.Power.{Power}
 use Rattle.power.specs.declared.PowerAnswer.{PowerAnswer}
 use Rattle.power.specs.declared.parts.Sums.{Sums}
@@ -41,10 +41,6 @@ activeOf t = narrow (meanOf (t .vi) (t .count))
 unfoldable pub apparentOf : Sums → Float
 apparentOf t = mul binary32 (narrowedRoot (meanOf (t .vv) (t .count))) (narrowedRoot (meanOf (t .ii) (t .count)))
 
--- pf, the power factor: p / s in f32, and 0 where s is not above the f32 nearest to 1e-12, at a NaN too
-unfoldable pub factorOf : Float → Float → Float
-factorOf p s = cond (lt tiny32 s) (div binary32 p s) (ofBits binary32 0)
-
 -- the Rust's `if x > 0.0 { x } else { 0.0 }`: 0 at a NaN too
 unfoldable pub aboveZero : Float → Float
 aboveZero x = cond (lt (ofBits binary64 0) x) x (ofBits binary64 0)
@@ -53,9 +49,9 @@ aboveZero x = cond (lt (ofBits binary64 0) x) x (ofBits binary64 0)
 unfoldable pub reactiveOf : Float → Float → Float
 reactiveOf p s = narrowedRoot (aboveZero (sub binary64 (mul binary64 s s) (mul binary64 p p)))
 
--- q and pf from p and s
+-- q, and pf, the power factor p / s, from p and s
 abbrev pub recordWith : Float → Float → Power
-recordWith p s = record { p = p; q = reactiveOf p s; s = s; pf = factorOf p s }
+recordWith p s = record { p = p; q = reactiveOf p s; s = s; pf = ratioOrZero p s }
 
 -- 01, item 4: "p, q, s and pf as one record"
 unfoldable pub recordOf : Sums → Power

@@ -1,8 +1,9 @@
 // How a call that reads two slices ends, and the record of a capture from its sums.
 ghost use mathlib.Core.Path.{_≡_};
 ghost use Prim.Native.Nat.{_≤_};
-ghost use Rattle.power.specs.Power.{factorOf, aboveZero, reactiveOf, recordOf, outcomeOf};
+ghost use Rattle.power.specs.Power.{aboveZero, reactiveOf, recordOf, outcomeOf};
 ghost use Rattle.answers.specs.Numbers.{longest};
+ghost use Rattle.laws.specs.Quotients.{ratioOrZero};
 use crate::Power;
 use answers::LONGEST;
 use answers::Outcome;
@@ -33,7 +34,7 @@ pub struct Sums {
 
 // The power factor; 0 where s is at most 1e-12, or is not a number.
 fn factor(p: f32, s: f32) -> f32
-    ensures { λ r. ⌜ r ≡ factorOf p s ⌝ }
+    ensures { λ r. ⌜ r ≡ ratioOrZero p s ⌝ }
 {
     if s > 1e-12 { p / s } else { 0.0 }
 }

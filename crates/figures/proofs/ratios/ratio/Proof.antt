@@ -1,14 +1,14 @@
 -- `figures::ratios::ratio` meets its contract. Assumes nothing.
-use Rattle.figures.specs.Ratios.{ratioOf}
+use Rattle.laws.specs.Quotients.{ratioOrZero}
 use Rattle.figures.proofs.ratios.ratio.Statement.{statement}
 use Rattle.figures.proofs.ratios.ratio.Tie as tie
 
 returns : tie.Need-returns
-unfolding ratioOf
+unfolding ratioOrZero
 returns c = rw (c .if1 .taken)
 
 returns-2 : tie.Need-returns-2
-unfolding ratioOf
+unfolding ratioOrZero
 returns-2 c = rw (c .if1 .left)
 
 pub ratio-spec : {M : Type 1} → statement M
