@@ -10,11 +10,12 @@ use native.Mathlib.Decide.{decLe}
 use borrow.Author.Tests.{lt-ltb, le-ltb}
 use lib.Dec.{T, ltb}
 use lib.ListN.{length, getD}
-use lib.Ieee.{Float, nan, inf, fin, Format, binary32, binary64, mul, div, round, neg, lt, ofBits}
+use lib.Ieee.{Float, nan, inf, fin, Format, binary64, mul, div, round, neg, lt, ofBits}
 use lib.Ieee.Scale.{finite}
-use Rattle.laws.specs.Harmonics.{squareOf, harmonicsOf, powerOf, lastUpTo}
+use Rattle.laws.specs.Harmonics.{harmonicsOf, powerOf, lastUpTo}
 use Rattle.laws.specs.Literals.{zero32, zero64}
 use Rattle.laws.specs.Quotients.{percentOf}
+use Rattle.laws.specs.Samples.{squareOf}
 use Rattle.laws.proofs.NotFinite.{add-beyond, beyond-add, beyond-mul, beyond-div}
 use Rattle.number.specs.Number.{narrow, root, narrowedRoot}
 use Rattle.quarter.specs.Table.{quarterTable}

@@ -6,8 +6,9 @@ use mathlib.Core.List.{List, [], _∷_, map}
 use lib.Count.{trailingZeros}
 use lib.Dec.{eqb}
 use lib.Ieee.{Float, nan, inf, add, sub, mul, div, neg, sum, round, units, odd, size, span, climb, lt, ofInt, ofBits, ofFields, toUnsigned}
-use Rattle.laws.specs.Harmonics.{squareOf, harmonicsOf, powerOf, lastUpTo}
+use Rattle.laws.specs.Harmonics.{harmonicsOf, powerOf, lastUpTo}
 use Rattle.laws.specs.Literals.{zero32, count32}
+use Rattle.laws.specs.Samples.{squareOf}
 use Rattle.number.specs.Number.{narrow, root, narrowedRoot, wholeRoot, rootIn, roundAway}
 use Rattle.quarter.specs.Table.{quarterTable}
 use Rattle.quarter.specs.Turn.{fraction, quadrant, sineOf, cosineOf}

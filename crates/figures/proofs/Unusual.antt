@@ -12,13 +12,13 @@ use Rattle.generator.specs.declared.Wave.{Wave}
 use Rattle.generator.specs.declared.Wave.the-variants.{DC, PWM, Triangular, Sawtooth}
 use Rattle.laws.specs.Literals.{zero32, zero64, count32}
 use Rattle.laws.specs.Quotients.{ratioOrZero}
-use Rattle.laws.specs.Samples.{higher, lower}
+use Rattle.laws.specs.Samples.{higher, lower, squareOf}
 use Rattle.laws.specs.Walks.{over, pairs}
 use Rattle.laws.proofs.NotNumber.{sub-nan, nan-sub, lt-nan, nan-lt, le-nan, nan-le}
 use Rattle.number.specs.Number.{narrow, root, abs}
 use Rattle.timing.specs.Timing.{totalOf, meanOf, risesAt, crossingAt, noCrossing, crossingsOf, frequencyFrom, frequencyAbout, slewAt, steepestOf, slewOf}
 use Rattle.figures.specs.declared.edges.Edges.{Edges}
-use Rattle.figures.specs.Levels.{maxOf, minOf, adding, sumOf, square, away, averageOf, rectifiedOf, dcRmsOf, acRmsOf}
+use Rattle.figures.specs.Levels.{maxOf, minOf, adding, sumOf, away, averageOf, rectifiedOf, dcRmsOf, acRmsOf}
 use Rattle.figures.specs.Duty.{millionth, near, isHigh, tally, highsOf}
 use Rattle.figures.specs.Edges.{noEdge, riseBegins, riseCounts, fallBegins, fallCounts, edgeAt, edgesOf}
 use Rattle.figures.specs.Ratios.{crestOf, periodOf, excessOf}
@@ -90,17 +90,17 @@ module _ (xs ys : List Float) where
   unfolding sumOf meanOf div narrow
   mean-nan f h = ap (λ (t : Float). meanOf t (length (withNan xs ys))) (sum-nan f h xs ys)
 
-  square-nan : square nan ≡ nan
-  unfolding mul
+  square-nan : squareOf nan ≡ nan
+  unfolding squareOf mul
   square-nan = refl
 
   pub nan-dc-rms : dcRmsOf (withNan xs ys) ≡ nan
   unfolding dcRmsOf root
-  nan-dc-rms = ap (root binary32) (mean-nan square square-nan)
+  nan-dc-rms = ap (root binary32) (mean-nan squareOf square-nan)
 
   pub nan-ac-rms : acRmsOf (withNan xs ys) ≡ nan
   unfolding acRmsOf root
-  nan-ac-rms = ap (root binary32) (mean-nan (away (averageOf (withNan xs ys))) (ap square (nan-sub binary32 _) ∙ square-nan))
+  nan-ac-rms = ap (root binary32) (mean-nan (away (averageOf (withNan xs ys))) (ap squareOf (nan-sub binary32 _) ∙ square-nan))
 
   pub nan-rectified : rectifiedOf (withNan xs ys) ≡ nan
   unfolding rectifiedOf abs

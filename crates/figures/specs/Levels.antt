@@ -3,9 +3,9 @@
 use mathlib.Core.Bool.{true, false}
 use mathlib.Core.List.{List}
 use lib.ListN.{length}
-use lib.Ieee.{Float, inf, binary32, binary64, add, sub, mul}
+use lib.Ieee.{Float, inf, binary32, binary64, add, sub}
 use Rattle.laws.specs.Literals.{zero64}
-use Rattle.laws.specs.Samples.{higher, lower}
+use Rattle.laws.specs.Samples.{higher, lower, squareOf}
 use Rattle.laws.specs.Walks.{over}
 use Rattle.number.specs.Number.{root, abs}
 use Rattle.timing.specs.Timing.{totalOf, meanOf}
@@ -33,19 +33,15 @@ adding f t x = add binary64 t (f x)
 unfoldable pub sumOf : (Float → Float) → List Float → Float
 sumOf f xs = over (adding f) zero64 xs (length xs)
 
--- the square of an f32, in f64
-abbrev pub square : Float → Float
-square x = mul binary64 x x
-
 -- the square of the f32 difference from the average
 abbrev pub away : Float → Float → Float
-away average x = square (sub binary32 x average)
+away average x = squareOf (sub binary32 x average)
 
 abbrev pub rippleOf : Float → List Float → Float
 rippleOf average xs = sumOf (away average) xs
 
 abbrev pub sumsOf : List Float → Sums
-sumsOf xs = record { total = totalOf xs; squares = sumOf square xs; sizes = sumOf abs xs }
+sumsOf xs = record { total = totalOf xs; squares = sumOf squareOf xs; sizes = sumOf abs xs }
 
 -- ---- means, each an f64 quotient, narrowed once
 
@@ -60,7 +56,7 @@ rectifiedOf xs = meanOf (sumOf abs xs) (length xs)
 
 -- with the DC part
 unfoldable pub dcRmsOf : List Float → Float
-dcRmsOf xs = root binary32 (meanOf (sumOf square xs) (length xs))
+dcRmsOf xs = root binary32 (meanOf (sumOf squareOf xs) (length xs))
 
 -- without it
 unfoldable pub acRmsOf : List Float → Float

@@ -5,7 +5,8 @@ use native.Mathlib.Nat.{le-div-iff-mul-le, mul-comm, div-eq-of-lt-le}
 use native.Mathlib.Omega.{arith}
 use lib.Ieee.{Float, binary64, add}
 use Rattle.laws.specs.Literals.{zero64}
-use Rattle.laws.specs.Harmonics.{squareOf, harmonicsOf, powerOf, lastOrder, lastUpTo}
+use Rattle.laws.specs.Samples.{squareOf}
+use Rattle.laws.specs.Harmonics.{harmonicsOf, powerOf, lastOrder, lastUpTo}
 
 -- ---- the sum
 module _ (magnitude : ℕ → Float) (b first : ℕ) where

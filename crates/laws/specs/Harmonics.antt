@@ -1,11 +1,8 @@
 -- The power of a bin's harmonics, over the magnitude at each bin. Definitions only.
 use Prim.Native.Nat.{ℕ, zero, suc, _+_, _-_, _*_, _/_, min}
-use lib.Ieee.{Float, binary64, add, mul}
+use lib.Ieee.{Float, binary64, add}
 use Rattle.laws.specs.Literals.{zero64}
-
--- the square of a magnitude, an f32, as an f64
-unfoldable pub squareOf : Float → Float
-squareOf x = mul binary64 x x
+use Rattle.laws.specs.Samples.{squareOf}
 
 -- 01, "Sums are f64, in index order from 0": the squares at the multiples of the bin b by the orders first, first + 1, .., as many as said
 unfoldable pub harmonicsOf : (ℕ → Float) → ℕ → ℕ → ℕ → Float

@@ -3,7 +3,7 @@ use mathlib.Core.Bool.{Bool, true, cond, _&&_, not}
 use mathlib.Core.List.{List}
 use Prim.Native.Nat.{ℕ}
 use lib.ListN.{length, drop}
-use lib.Ieee.{Float, nan, inf, fin, lt, isNan}
+use lib.Ieee.{Float, nan, inf, fin, binary64, mul, lt, isNan}
 use Rattle.laws.specs.Walks.{over}
 
 -- 01, "a sample replaces one only if strictly beyond it. A NaN never does": the greater of the extreme so far and a sample, and the lesser
@@ -12,6 +12,10 @@ higher m x = cond (lt m x) x m
 
 unfoldable pub lower : Float → Float → Float
 lower m x = cond (lt x m) x m
+
+-- the square of a sample or a magnitude, an f32, in f64: what 01's "Sums are f64" add up for an RMS value or a power
+unfoldable pub squareOf : Float → Float
+squareOf x = mul binary64 x x
 
 -- no number below zero, nor -0: a NaN, or a float whose sign is clear
 unfoldable pub unsigned : Float → Bool

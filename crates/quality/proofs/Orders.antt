@@ -6,8 +6,9 @@ use native.Mathlib.Nat.{le-trans, le-of-eq, lt-of-le-of-lt, add-zero, mul-suc, m
 use native.Mathlib.Omega.{arith}
 use lib.ListN.{length}
 use lib.Ieee.{Float, binary64, add}
-use Rattle.laws.specs.Harmonics.{squareOf, lastOrder}
+use Rattle.laws.specs.Harmonics.{lastOrder}
 use Rattle.laws.specs.Literals.{zero64}
+use Rattle.laws.specs.Samples.{squareOf}
 use Rattle.laws.specs.Walks.{over}
 use Rattle.laws.proofs.Turn.{over-from}
 use Rattle.laws.proofs.Harmonics.{none-yet, one-more, all-orders, last-inside}

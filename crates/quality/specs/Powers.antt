@@ -6,7 +6,8 @@ use lib.ListN.{length, drop, getD}
 use lib.Ieee.{Float, nan, binary64, add}
 use Rattle.answers.specs.Numbers.{longest}
 use Rattle.laws.specs.Walks.{over}
-use Rattle.laws.specs.Harmonics.{squareOf, harmonicsOf, powerOf, lastOrder}
+use Rattle.laws.specs.Harmonics.{harmonicsOf, powerOf, lastOrder}
+use Rattle.laws.specs.Samples.{squareOf}
 
 abbrev pub magnitudeIn : List Float → ℕ → Float
 magnitudeIn s k = getD s k nan

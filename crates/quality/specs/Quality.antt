@@ -8,10 +8,9 @@ use lib.Ieee.{Float, nan, binary32, binary64, sub, div, lt, ofBits}
 use Rattle.answers.specs.declared.Measured.{Measured}
 use Rattle.answers.specs.declared.Outcome.the-variants.{Done, TooLong}
 use Rattle.answers.specs.Numbers.{tooLong}
-use Rattle.laws.specs.Harmonics.{squareOf}
 use Rattle.laws.specs.Literals.{zero32, zero64, tiny32}
 use Rattle.laws.specs.Quotients.{percentOf}
-use Rattle.laws.specs.Samples.{higher}
+use Rattle.laws.specs.Samples.{higher, squareOf}
 use Rattle.laws.specs.Walks.{pairs}
 use Rattle.number.specs.Number.{narrowedRoot}
 use Rattle.quality.specs.declared.Quotient.the-variants as Q

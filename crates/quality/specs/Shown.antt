@@ -4,8 +4,9 @@ use mathlib.Core.Bool.{false}
 use mathlib.Core.List.{[], _∷_}
 use lib.Count.{trailingZeros}
 use lib.Ieee.{Float, nan, inf, add, mul, div, sum, round, units, odd, size, span, climb, lt, ofInt, ofBits, ofFields}
-use Rattle.laws.specs.Harmonics.{squareOf, harmonicsOf, powerOf}
+use Rattle.laws.specs.Harmonics.{harmonicsOf, powerOf}
 use Rattle.laws.specs.Literals.{zero32, count32}
+use Rattle.laws.specs.Samples.{squareOf}
 use Rattle.number.specs.Number.{narrow, root, narrowedRoot, wholeRoot, rootIn}
 use Rattle.quality.specs.Powers.{powerIn}
 use Rattle.quality.specs.Quality.{thdOf}

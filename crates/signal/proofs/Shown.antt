@@ -5,7 +5,8 @@ use mathlib.Core.List.{List, [], _∷_}
 use lib.Count.{trailingZeros}
 use lib.Ieee.{Float, nan, binary32, add, sub, mul, div, rem, neg, lt, le, sum, round, units, odd, size, span, climb, ofInt, ofBits, ofFields, toUnsigned}
 use Rattle.laws.specs.Filled.{filled}
-use Rattle.laws.specs.Harmonics.{squareOf, harmonicsOf, powerOf, lastUpTo}
+use Rattle.laws.specs.Harmonics.{harmonicsOf, powerOf, lastUpTo}
+use Rattle.laws.specs.Samples.{squareOf}
 use Rattle.laws.specs.Walks.{over}
 use Rattle.number.specs.Number.{narrow, root, narrowedRoot, wholeRoot, rootIn, roundAway}
 use Rattle.generator.specs.declared.Wave.the-variants.{PWM, Sawtooth}

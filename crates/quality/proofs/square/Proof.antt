@@ -1,6 +1,6 @@
 -- `quality::square` meets its contract. Assumes nothing.
 use borrow.Author.Needs.{needs}
-use Rattle.laws.specs.Harmonics.{squareOf}
+use Rattle.laws.specs.Samples.{squareOf}
 use Rattle.quality.proofs.square.Statement.{statement}
 use Rattle.quality.proofs.square.Tie as tie
 

@@ -3,7 +3,7 @@ use mathlib.Core.Path.{refl}
 use mathlib.Core.Bool.{not}
 use lib.Ieee.{binary64, fits, isNan}
 use lib.Ieee.Fits.{and-i, fits-widens}
-use Rattle.laws.specs.Harmonics.{squareOf}
+use Rattle.laws.specs.Samples.{squareOf}
 use Rattle.laws.proofs.Numbers.{no-nan}
 use Rattle.quality.proofs.square_of_number.Statement.{statement}
 use Rattle.quality.proofs.square_of_number.Tie as tie

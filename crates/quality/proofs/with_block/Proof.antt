@@ -5,8 +5,8 @@ use native.Mathlib.Omega.{arith}
 use borrow.Author.Needs.{needs}
 use mathlib.Core.List.{List}
 use lib.Ieee.{Float, binary64, add}
+use Rattle.laws.specs.Samples.{squareOf}
 use Rattle.laws.specs.Walks.{over}
-use Rattle.laws.specs.Harmonics.{squareOf}
 use Rattle.laws.proofs.Numbers.{numbers-in-at, number-same}
 use Rattle.quality.specs.Powers.{magnitudeIn, block, withSquares}
 use Rattle.quality.proofs.Orders.{squares-next}

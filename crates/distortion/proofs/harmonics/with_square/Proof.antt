@@ -1,6 +1,6 @@
 -- `distortion::harmonics::with_square` meets its contract: an f32 is widened exactly. Assumes nothing.
 use borrow.Author.Needs.{needs}
-use Rattle.laws.specs.Harmonics.{squareOf}
+use Rattle.laws.specs.Samples.{squareOf}
 use Rattle.distortion.proofs.harmonics.with_square.Statement.{statement}
 use Rattle.distortion.proofs.harmonics.with_square.Tie as tie
 

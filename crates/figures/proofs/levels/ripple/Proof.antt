@@ -9,10 +9,11 @@ use lib.Ieee.{nan, binary32, binary64, fits, isNan, sub, mul, div, ofBits}
 use lib.Ieee.Fits.{and-i, fits-widens}
 use denote.Ref.{now}
 use Rattle.laws.specs.Literals.{zero64}
+use Rattle.laws.specs.Samples.{squareOf}
 use Rattle.laws.specs.Walks.{over}
 use Rattle.laws.proofs.Numbers.{is-nan, no-nan}
 use Rattle.laws.proofs.Turn.{over-next}
-use Rattle.figures.specs.Levels.{adding, sumOf, square, away}
+use Rattle.figures.specs.Levels.{adding, sumOf, away}
 use Rattle.figures.proofs.NanSums.{nan-sum}
 use Rattle.figures.proofs.levels.ripple.Statement.{statement}
 use Rattle.figures.proofs.levels.ripple.Tie as tie
@@ -34,11 +35,11 @@ shared-slice-read-away : tie.Need-shared-slice-read-away Inv-loop μ-loop
 shared-slice-read-away c = search needs
 
 returns : tie.Need-returns Inv-loop μ-loop
-unfolding mul div ofBits
+unfolding squareOf mul div ofBits
 returns c =
     let l = c .before .before .before .loop in
     let a = c .before .before .before .before .args in
-    sym (nan-sum (away (a .average)) (now (a .samples)) (l .k) (ap square (is-nan _ (c .if1 .taken))) (omega arith))
+    sym (nan-sum (away (a .average)) (now (a .samples)) (l .k) (ap squareOf (is-nan _ (c .if1 .taken))) (omega arith))
 
 float-to-float-x : tie.Need-float-to-float-x Inv-loop μ-loop
 float-to-float-x c =
@@ -53,6 +54,7 @@ loop-less : tie.Need-loop-less Inv-loop μ-loop
 loop-less c = search needs
 
 loop-again : tie.Need-loop-again Inv-loop μ-loop
+unfolding squareOf
 loop-again c =
     let l = c .before .before .before .before .loop in
     let a = c .before .before .before .before .before .args in

@@ -10,18 +10,19 @@ use lib.Ieee.{Float, nan, binary64, fits, isNan, add, mul, div, ofBits}
 use lib.Ieee.Fits.{and-i, fits-widens}
 use denote.Ref.{now}
 use Rattle.laws.specs.Literals.{zero64}
+use Rattle.laws.specs.Samples.{squareOf}
 use Rattle.laws.specs.Walks.{over}
 use Rattle.laws.proofs.Numbers.{is-nan, no-nan}
 use Rattle.laws.proofs.Turn.{over-next}
 use Rattle.number.specs.Number.{abs}
 use Rattle.timing.specs.Timing.{totalOf}
-use Rattle.figures.specs.Levels.{adding, sumOf, square}
+use Rattle.figures.specs.Levels.{adding, sumOf}
 use Rattle.figures.proofs.NanSums.{nan-sum, size-number}
 use Rattle.figures.proofs.levels.sum_up.Statement.{statement}
 use Rattle.figures.proofs.levels.sum_up.Tie as tie
 
 abbrev Inv-loop : tie.InvT-loop
-Inv-loop samples total₀ squares₀ sizes₀ k₀ total squares sizes k = (k ≤ length samples) × (total ≡ over (add binary64) zero64 samples k) × (squares ≡ over (adding square) zero64 samples k) × (sizes ≡ over (adding abs) zero64 samples k)
+Inv-loop samples total₀ squares₀ sizes₀ k₀ total squares sizes k = (k ≤ length samples) × (total ≡ over (add binary64) zero64 samples k) × (squares ≡ over (adding squareOf) zero64 samples k) × (sizes ≡ over (adding abs) zero64 samples k)
 
 abbrev μ-loop : tie.MeasureT-loop
 μ-loop samples total₀ squares₀ sizes₀ k₀ total squares sizes k = length samples - k
@@ -37,12 +38,12 @@ shared-slice-read-sample : tie.Need-shared-slice-read-sample Inv-loop μ-loop
 shared-slice-read-sample c = search needs
 
 returns : tie.Need-returns Inv-loop μ-loop
-unfolding totalOf sumOf mul div abs ofBits
+unfolding totalOf sumOf squareOf mul div abs ofBits
 returns c =
     let k = c .before .before .before .loop .k in
     let xs = now (c .before .before .before .before .before .args .samples) in
     let met : (f : Float → Float) → f nan ≡ nan → sumOf f xs ≡ nan = λ f h. nan-sum f xs k (ap f (is-nan _ (c .if1 .taken)) ∙ h) (omega arith) in
-    rw (met (λ (x : Float). x) refl, met square refl, met abs refl)
+    rw (met (λ (x : Float). x) refl, met squareOf refl, met abs refl)
 
 float-to-float-x : tie.Need-float-to-float-x Inv-loop μ-loop
 float-to-float-x c =
@@ -65,10 +66,11 @@ loop-less : tie.Need-loop-less Inv-loop μ-loop
 loop-less c = search needs
 
 loop-again : tie.Need-loop-again Inv-loop μ-loop
+unfolding squareOf
 loop-again c =
     let l = c .before .before .before .before .before .before .loop in
     let xs = now (c .before .before .before .before .before .before .before .before .args .samples) in
-    (omega arith, over-next (add binary64) zero64 xs (l .k) (l .inv .1) refl, over-next (adding square) zero64 xs (l .k) (l .inv .2) refl, rw (c .before .abs32 .ensures) (over-next (adding abs) zero64 xs (l .k) (l .inv .3) refl))
+    (omega arith, over-next (add binary64) zero64 xs (l .k) (l .inv .1) refl, over-next (adding squareOf) zero64 xs (l .k) (l .inv .2) refl, rw (c .before .abs32 .ensures) (over-next (adding abs) zero64 xs (l .k) (l .inv .3) refl))
 
 returns-2 : tie.Need-returns-2 Inv-loop μ-loop
 unfolding totalOf sumOf
