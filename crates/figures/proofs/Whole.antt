@@ -15,7 +15,7 @@ use Rattle.figures.specs.declared.edges.Times.{Times}
 use Rattle.figures.specs.declared.TimeFigures.{TimeFigures}
 use Rattle.figures.specs.Levels.{extremesOf, sumsOf, rippleOf, averageOf, rectifiedOf, dcRmsOf, acRmsOf, levelsOf}
 use Rattle.figures.specs.Duty.{dutyOf}
-use Rattle.figures.specs.Edges.{timesOf}
+use Rattle.figures.specs.Edges.{edgesBetween, timesOf}
 use Rattle.figures.specs.Ratios.{crestOf, periodOf, excessOf}
 use Rattle.figures.specs.Figures.{figuresOf}
 
@@ -59,7 +59,7 @@ figuresWith l amplitude duty times crest hertz period form over under slew =
 
 pub figures-whole : (wave : Wave) (amplitude frequency : Float) (xs : List Float) {l : Levels} {duty : Float} {times : Times} {rate crest hertz period form over under slew : Float}
     → l ≡ levelsOf xs → duty ≡ dutyOf wave amplitude xs
-    → times ≡ timesOf (l .min) (sub binary32 (l .max) (l .min)) frequency xs
+    → times ≡ timesOf (edgesBetween (l .min) (sub binary32 (l .max) (l .min)) xs) frequency (length xs)
     → rate ≡ count32 (length xs) → hertz ≡ frequencyAbout (l .average) xs rate → slew ≡ slewOf xs rate
     → crest ≡ crestOf (l .max) (l .min) (l .«dc_rms») → period ≡ periodOf hertz → form ≡ ratioOrZero (l .«dc_rms») (l .rectified)
     → over ≡ excessOf (l .max) amplitude (sub binary32 (l .max) (l .min)) → under ≡ excessOf (neg amplitude) (l .min) (sub binary32 (l .max) (l .min))

@@ -56,15 +56,18 @@ lowThreshold min swing = add binary32 min (mul binary32 (ofBits binary32 0x3DCCC
 abbrev pub highThreshold : Float → Float → Float
 highThreshold min swing = add binary32 min (mul binary32 (ofBits binary32 0x3F666666) swing)
 
+-- the edges of samples with this minimum and this swing
+abbrev pub edgesBetween : Float → Float → List Float → Edges
+edgesBetween min swing xs = edgesOf (lowThreshold min swing) (highThreshold min swing) xs
+
 -- ---- times
 
 -- from one of n samples to the next: they are one period where the frequency is above 0, and else one second
 unfoldable pub sampleTimeOf : Float → ℕ → Float
 sampleTimeOf frequency n = cond (lt zero32 frequency) (div binary32 one32 (mul binary32 frequency (count32 n))) (div binary32 one32 (count32 n))
 
--- how long the last rise and the last fall took
-unfoldable pub timesOf : Float → Float → Float → List Float → Times
-timesOf min swing frequency xs =
-    let edges = edgesOf (lowThreshold min swing) (highThreshold min swing) xs in
-    let tick = sampleTimeOf frequency (length xs) in
+-- how long the last rise and the last fall of n samples took
+unfoldable pub timesOf : Edges → Float → ℕ → Times
+timesOf edges frequency n =
+    let tick = sampleTimeOf frequency n in
     record { rise = mul binary32 (count32 (edges .rise)) tick; fall = mul binary32 (count32 (edges .fall)) tick }

@@ -3,7 +3,7 @@ ghost use mathlib.Core.Path.{_≡_};
 ghost use Prim.Native.Nat.{_≤_, _<_};
 ghost use lib.ListN.{length};
 ghost use Rattle.answers.specs.Numbers.{longest};
-ghost use Rattle.figures.specs.Edges.{riseBegins, riseCounts, fallBegins, fallCounts, edgeAt, edgesOf, sampleTimeOf, timesOf};
+ghost use Rattle.figures.specs.Edges.{riseBegins, riseCounts, fallBegins, fallCounts, edgeAt, edgesOf, edgesBetween, sampleTimeOf, timesOf};
 use number::parts::counted;
 
 // Which edge is under way (0 none, RISE or FALL), and how many samples the last of each kind has so far.
@@ -131,7 +131,7 @@ pub struct Times {
 // With the thresholds a tenth and nine tenths of the swing above the minimum.
 pub fn times_of(samples: &[f32], min: f32, swing: f32, frequency: f32) -> Times
     requires { ⌜ length (now samples) ≤ longest ⌝ }
-    ensures { λ r. ⌜ r ≡ timesOf min swing frequency (now (samples .entry)) ⌝ }
+    ensures { λ r. ⌜ r ≡ timesOf (edgesBetween min swing (now (samples .entry))) frequency (length (now (samples .entry))) ⌝ }
 {
     let edges = find_edges(samples, min + 0.1 * swing, min + 0.9 * swing);
     let tick = sample_time(frequency, samples.len());

@@ -20,8 +20,8 @@ use Rattle.power.specs.declared.PowerAnswer.{PowerAnswer}
 use Rattle.power.specs.Power.{sumTo, meanOf, activeOf, apparentOf, aboveZero, reactiveOf, recordOf, zeroPower, answered, powerOf, outcomeOf as powerOutcome, answerOf}
 use Rattle.timing.specs.Timing.{totalOf, meanOf as timingMean, risesAt, firstOf, crossingAt, crossingsOf, frequencyFrom, frequencyAbout, frequencyAnswer, slewAt, steepestOf, slewOf, slewAnswer}
 use Rattle.figures.specs.Levels.{maxOf, minOf}
-use Rattle.figures.specs.Edges.{riseBegins, riseCounts, fallBegins, fallCounts, edgeAt, edgesOf, lowThreshold, highThreshold}
-use Rattle.figures.specs.Figures.{peakToPeakOf}
+use Rattle.figures.specs.Edges.{riseBegins, riseCounts, fallBegins, fallCounts, edgeAt, edgesOf}
+use Rattle.figures.specs.Figures.{edgesIn}
 use Rattle.quarter.specs.Table.{quarterTable}
 use Rattle.quarter.specs.Turn.{fraction, quadrant, sineOf, cosineOf}
 use Rattle.spectrum.specs.Grid.{lengths, onGrid}
@@ -52,9 +52,9 @@ pub data Answer : Type 0 where
   bins : Written Float → Answer
   codes : Left → Answer
 
--- how many samples the last rise has, between the thresholds of the samples' own extremes
+-- how many samples the last rise has, of the edges that the time figures' rise and fall are worked out from
 abbrev pub riseSamples : List Float → ℕ
-riseSamples xs = edgesOf (lowThreshold (minOf xs) (peakToPeakOf xs)) (highThreshold (minOf xs) (peakToPeakOf xs)) xs .rise
+riseSamples xs = edgesIn xs .rise
 
 -- each call by the definition that its contract cites
 abbrev pub answerTo : Call → Answer
