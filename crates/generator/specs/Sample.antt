@@ -56,7 +56,7 @@ pwmAt s n i =
 unfoldable pub period : Shape → Float
 period s = div binary32 one32 (s .frequency)
 
--- the phase in radians, in seconds
+-- the phase as a time in seconds: the Rust's `phase_rad / angular_freq`, the phase in radians over the radians in a second
 unfoldable pub shift : Shape → Float
 shift s = div binary32 (div binary32 (mul binary32 (s .phase) pi) half-turn) (mul binary32 (mul binary32 two pi) (s .frequency))
 
@@ -88,6 +88,6 @@ ofWave Sawtooth s n i = sawtoothAt s n i
 unfoldable pub sampleAt : Shape → ℕ → ℕ → Float
 sampleAt s n i = ofWave (s .wave) s (count32 n) (count32 i)
 
--- 01, row 3: "a slice of samples that is filled by the generator has more than 65,536 places", and "Nothing but 0 writes"; else every place has its sample
+-- 01, row 3: "a slice of samples [..] filled by the generator, has more than 65,536 places", and "Nothing but 0 writes to what was lent"; else every place has its sample
 unfoldable pub generated : Shape → List Float → Written Float
 generated s xs = cond (tooLong (length xs)) (written TooLong xs) (written Done (filled (sampleAt s (length xs)) (length xs) xs))

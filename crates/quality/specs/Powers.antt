@@ -16,6 +16,8 @@ magnitudeIn s k = getD s k nan
 unfoldable pub powerIn : List Float → ℕ → ℕ → Float
 powerIn s b first = powerOf (magnitudeIn s) b first (lastOrder (length s) b)
 
+-- ---- for the loops alone: the contracts of the five calls don't cite what follows
+
 -- where a sum over the orders may go on with the order h: the order before lies inside, so that the multiple by h is below twice the length
 pub record Inside (n b h : ℕ) : Type 0 where
   pub places : n ≤ longest

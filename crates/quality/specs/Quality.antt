@@ -56,7 +56,7 @@ ownOf s b = squareOf (getD s b nan)
 abbrev pub totalOf : List Float → Float
 totalOf s = powerIn s 1 1
 
--- noise that is not above 0 counts as the f64 1e-30
+-- the Rust's `signal_power / noise_power`, after `if noise_power > 0.0 { noise_power } else { 1e-30 }`: noise that is not above 0 counts as the f64 1e-30
 unfoldable pub overNoise : Float → Float → Float
 overNoise own noise = div binary64 own (cond (lt zero64 noise) noise (ofBits binary64 0x39B4484BFEEBC2A0))
 

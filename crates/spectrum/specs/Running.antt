@@ -1,4 +1,5 @@
--- Several bins in one walk over the samples: a bin underway, and the four that are stored at its end. Definitions only.
+-- Several bins in one walk over the samples: a bin underway, and the four that are stored at its end. It serves that loop alone: the contracts of
+-- `dft_magnitude_spectrum` and `dft_magnitude_spectrum_in` don't cite it. Definitions only.
 use mathlib.Core.List.{List}
 use Prim.Native.Nat.{ℕ, _+_, _%_}
 use lib.ListN.{set}

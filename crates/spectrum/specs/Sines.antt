@@ -25,7 +25,8 @@ pub record Worked : Type 0 where
 abbrev pub worked : Outcome → List Float → List Float → Worked
 worked o out w = record { outcome = o; places = out; scratch = w }
 
--- as `spectrumOf`; the scratch must have a place for each sample, and after a call that is done its first n places hold the n sines
+-- `spectrumOf` with lent scratch: this call is ours and not in 01. The scratch must have a place for each sample, and after a call that is done
+-- its first n places hold the n sines
 unfoldable pub spectrumIn : List Float → List Float → List Float → Worked
 spectrumIn xs w out =
     let n = length xs in

@@ -1,4 +1,4 @@
--- The search for a larger step between neighbours. Definitions only.
+-- The search for a larger step between neighbours. It serves that loop alone: `slew_rate`'s contract doesn't cite it. Definitions only.
 use mathlib.Core.Path.{_≡_}
 use mathlib.Core.Bool.{true, false}
 use mathlib.Core.List.{List}

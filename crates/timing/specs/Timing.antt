@@ -58,7 +58,8 @@ frequencyOf xs rate = frequencyAbout (meanOf (totalOf xs) (length xs)) xs rate
 
 -- ---- slew rate
 
--- the size of a step from one sample to the next; that over the time dt between them; and the larger of m and that
+-- the size of a step from one sample to the next, the Rust's `fabsf(samples[i] - samples[i - 1])`; that over the time dt between them, `dv / dt`;
+-- and the larger of m and that, `if sr > max_sr`
 abbrev pub stepOf : Float → Float → Float
 stepOf prev curr = abs (sub binary32 curr prev)
 
@@ -71,7 +72,8 @@ slewAt dt m i prev curr = higher m (slopeOf dt prev curr)
 unfoldable pub steepestOf : Float → List Float → Float
 steepestOf dt xs = pairs (slewAt dt) zero32 xs (length xs - 1)
 
--- 0 where the rate is at most 0, and for fewer than two samples
+-- the Rust's `if samples.len() < 2 || sample_rate <= 0.0 { return 0.0; }`, and else the largest with `dt = 1.0 / sample_rate`, from 0: so 0 where the rate is at
+-- most 0, and for fewer than two samples
 unfoldable pub slewOf : List Float → Float → Float
 slewOf xs rate = cond (le rate zero32) zero32 (steepestOf (div binary32 one32 rate) xs)
 
