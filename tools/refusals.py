@@ -23,6 +23,7 @@ for path in sorted(pathlib.Path("crates").glob("*/must-fail/*.edit")):
     text = log.read_text(encoding="utf-8", errors="replace")
     errors = re.findall(r"^\S*?/([^/\s]+/[^/\s]+):\d+:\d+: error: (.*)$", text, re.M)
     errors += re.findall(r"^fn (\S+): no proof: .*; (`search` does not close .*)$", text, re.M)
+    errors.sort(key=lambda error: "was not admitted" in error[1])  # a caller's, last
     named = re.findall(r"^# refuses: (.*)$", path.read_text(encoding="utf-8"), re.M)
     # refused for itself, and not only because a function that it calls was
     own = r"^fn \S*::{0}: (?:not proved$|no proof: .*does not close)|/{0}/Proof\.antt:\d+:\d+: error: (?!.*was not admitted)"
