@@ -31,6 +31,9 @@ const VALUES: [f32; 7] = [-1.5, -0.0, 0.1, f32::MAX, f32::NEG_INFINITY, f32::NAN
 /// The most places that are taken.
 const LONGEST: usize = 65536;
 
+/// Lengths about the ends of blocks of 32 places.
+const BLOCKS: [usize; 12] = [31, 32, 33, 63, 64, 65, 95, 96, 97, 127, 128, 129];
+
 struct Checks {
     offset: Check,
     scale: Check,
@@ -88,9 +91,9 @@ impl Checks {
     }
 }
 
-/// Every length to 40 with every pair of values and every offset or factor among `VALUES`, and all edges against all.
+/// Every length to 40 and about the ends of blocks, with every pair of values and every offset or factor among `VALUES`, and all edges against all.
 fn small(checks: &Checks, log: &mut Log) {
-    for n in 0..=40 {
+    for n in (0..=40).chain(BLOCKS) {
         for v in VALUES {
             for w in VALUES {
                 let list: Vec<f32> = (0..n).map(|i| if i % 2 == 0 { v } else { w }).collect();
@@ -108,9 +111,9 @@ fn small(checks: &Checks, log: &mut Log) {
     }
 }
 
-/// Every three lengths to 20, and some near 40.
+/// Every three lengths to 20, some near 40, and about the ends of blocks.
 fn lengths(checks: &Checks, log: &mut Log, random: &mut Random) {
-    let all: Vec<usize> = (0..=20).chain([31, 32, 33, 39, 40]).collect();
+    let all: Vec<usize> = (0..=20).chain([39, 40]).chain(BLOCKS).collect();
     for a in &all {
         for b in &all {
             for out in &all {
@@ -129,7 +132,7 @@ pub fn compare(rounds: u64, log: &mut Log) {
     for _ in 0..rounds {
         let kind = random.pick(&KINDS);
         let lists = [0; 3].map(|_| {
-            let n = random.below(81) as usize;
+            let n = random.below(161) as usize;
             random.samples(kind, n)
         });
         let x = random.sample(Kind::Mixed);
