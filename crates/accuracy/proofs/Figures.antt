@@ -9,7 +9,7 @@ use lib.IntN.{ℤ, natAbs}
 use lib.Ieee.{Float, binary32, binary64, round, mul, fits}
 use lib.Ieee.Positive.{num, den, den-pos}
 use Rattle.number.specs.Number.{narrow, root, narrowedRoot}
-use Rattle.power.specs.Power.{meanOf}
+use Rattle.power.specs.Power.{mean64}
 use Rattle.laws.specs.Whole.{Is}
 use Rattle.laws.proofs.Ratio.{Ratio, after, times, squared, weaken, renamed}
 use Rattle.laws.proofs.Close.{round-close}
@@ -39,7 +39,7 @@ mean-size a n A h N l =
     }
 
 pub mean-found : (t : Float) (z : ℤ) (n : ℕ) → 0 < n → n ≤ 65536 → Is t z → 0 < natAbs z → natAbs z ≤ 2 ^ 46
-    → Found (meanOf t n) (signBit t) (natAbs z) n (2 ^ 53 - 1) (2 ^ 53 + 1) (2 ^ 53) (2 ^ 17) (2 ^ 47)
+    → Found (mean64 t n) (signBit t) (natAbs z) n (2 ^ 53 - 1) (2 ^ 53 + 1) (2 ^ 53) (2 ^ 17) (2 ^ 47)
 mean-found t z n N l p Z h =
     let s = mean-size (natAbs z) n Z h N l in
     let x = round binary64 (signBit t) (natAbs z) n in
@@ -62,9 +62,9 @@ abbrev pub p-k : ℕ
 p-k = 2 ^ 53 * 2 ^ 24
 
 pub active-found : (t : Float) (z : ℤ) (n : ℕ) → 0 < n → n ≤ 65536 → Is t z → 0 < natAbs z → natAbs z ≤ 2 ^ 46
-    → Found (narrow (meanOf t n)) (signBit t) (natAbs z) n p-l p-h p-k (2 ^ 18) (2 ^ 48)
+    → Found (narrow (mean64 t n)) (signBit t) (natAbs z) n p-l p-h p-k (2 ^ 18) (2 ^ 48)
 active-found t z n N l p Z h =
-    let m = meanOf t n in
+    let m = mean64 t n in
     let f = mean-found t z n N l p Z h in
     let y = narrow m in
     let c = narrow-close m (signBit t) (2 ^ 17) (2 ^ 47) (f .is) (f .size) (lit≤ tt) (lit< tt) in
@@ -108,9 +108,9 @@ rms-near x a n A B t f g h =
 
 -- of an exact sum of squares
 pub rms-of-sum : (t : Float) (z : ℤ) (n : ℕ) → 0 < n → n ≤ 65536 → Is t z → signBit t ≡ false → 0 < natAbs z → natAbs z ≤ 2 ^ 46
-    → FoundSquare (narrowedRoot (meanOf t n)) false (natAbs z) n (2 ^ 28 - 34) (2 ^ 28 + 34) (2 ^ 28) (2 ^ 11) (2 ^ 26)
+    → FoundSquare (narrowedRoot (mean64 t n)) false (natAbs z) n (2 ^ 28 - 34) (2 ^ 28 + 34) (2 ^ 28) (2 ^ 11) (2 ^ 26)
 rms-of-sum t z n N l p s Z h =
-    let m = meanOf t n in
+    let m = mean64 t n in
     let f = mean-found t z n N l p Z h in
     rms-near m (natAbs z) n (2 ^ 9) (2 ^ 24) (mean-fits t n)
     (record {

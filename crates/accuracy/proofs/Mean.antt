@@ -11,7 +11,7 @@ use lib.Ieee.{Float, nan, inf, fin, binary64, up, down, unlike, round, div, ofIn
 use lib.Ieee.Fits.{down-pos, div-fits}
 use lib.Ieee.Scale.{round-same}
 use lib.Ieee.Positive.{num, den, first-pos}
-use Rattle.power.specs.Power.{meanOf}
+use Rattle.power.specs.Power.{mean64}
 use Rattle.laws.specs.Whole.{signed, Is}
 use Rattle.laws.proofs.Signs.{signOf, by-sign, size-signed, signed-scale, size-mul}
 use Rattle.laws.proofs.Whole.{ofInt-whole, rescaled}
@@ -80,10 +80,10 @@ div-whole (fin s m e) (fin t k d) z n N p q =
     regroup : (a c d n : ℕ) → a * c * d * n ≡ a * (n * d * c)
     regroup a c d n = simp (mul-assoc, mul-comm, mul-left-comm)
 
-pub mean-is : (t : Float) (z : ℤ) (n : ℕ) → 0 < n → n ≤ 65536 → Is t z → meanOf t n ≡ round binary64 (signBit t) (natAbs z) n
-unfolding meanOf
+pub mean-is : (t : Float) (z : ℤ) (n : ℕ) → 0 < n → n ≤ 65536 → Is t z → mean64 t n ≡ round binary64 (signBit t) (natAbs z) n
+unfolding mean64
 mean-is t z n N h p = div-whole t (ofInt binary64 (pos n)) z n N p (count-is n h)
 
-pub mean-fits : (t : Float) (n : ℕ) → T (fits binary64 (meanOf t n))
-unfolding meanOf
+pub mean-fits : (t : Float) (n : ℕ) → T (fits binary64 (mean64 t n))
+unfolding mean64
 mean-fits t n = div-fits binary64 t (ofInt binary64 (pos n))

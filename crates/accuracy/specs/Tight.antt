@@ -9,7 +9,7 @@ use lib.Ieee.{add, sub, mul, div, lt, ofInt, ofBits}
 use Rattle.laws.specs.Quotients.{ratioOrZero}
 use Rattle.number.specs.Number.{narrow, root, narrowedRoot}
 use Rattle.power.specs.declared.Power.{Power}
-use Rattle.power.specs.Power.{sumTo, meanOf, activeOf, apparentOf, aboveZero, reactiveOf, recordOf, powerOf}
+use Rattle.power.specs.Power.{sumTo, mean64, activeOf, apparentOf, aboveZero, reactiveOf, recordOf, powerOf}
 use Rattle.accuracy.specs.Accuracy.{samplesOf, codeAt, products, squares, ActiveNear, ApparentNear, ReactiveNear, FactorNear, AtMost}
 
 abbrev volts : List ℤ
@@ -40,5 +40,5 @@ pub no-nearer :
     × (ReactiveNear 22 3 v i w (found .q) → ⊥)
     × (FactorNear 22 v i w (found .pf) → ⊥)
     × (AtMost 23 (powerOf (samplesOf alike) (samplesOf alike) .pf) → ⊥)
-unfolding powerOf recordOf sumTo meanOf activeOf narrowedRoot apparentOf ratioOrZero aboveZero reactiveOf products squares narrow root add sub mul div lt ofInt ofBits
+unfolding powerOf recordOf sumTo mean64 activeOf narrowedRoot apparentOf ratioOrZero aboveZero reactiveOf products squares narrow root add sub mul div lt ofInt ofBits
 no-nearer = (λ h. not-le-of-lt (lit< tt) h, λ h. not-le-of-lt (lit< tt) h, λ h. not-le-of-lt (lit< tt) h, λ h. not-le-of-lt (lit< tt) h, λ h. not-le-of-lt (lit< tt) h)

@@ -12,7 +12,7 @@ use lib.Dec.{T, ltb}
 use lib.ListN.{length, getD}
 use lib.Ieee.{Float, nan, inf, fin, Format, binary64, mul, div, round, neg, lt, ofBits}
 use lib.Ieee.Scale.{finite}
-use Rattle.laws.specs.Harmonics.{harmonicsOf, powerOf, lastUpTo}
+use Rattle.laws.specs.Harmonics.{harmonicsOf, harmonicPower, lastUpTo}
 use Rattle.laws.specs.Literals.{zero32, zero64}
 use Rattle.laws.specs.Quotients.{percentOf}
 use Rattle.laws.specs.Samples.{squareOf}
@@ -22,7 +22,7 @@ use Rattle.quarter.specs.Table.{quarterTable}
 use Rattle.quarter.specs.Turn.{fraction, quadrant, sineOf, cosineOf}
 use Rattle.spectrum.specs.declared.parts.Sums.{Sums}
 use Rattle.spectrum.specs.Bin.{angleOf, turned, sumsTo, sumsOf, sizeOf, magnitudeOf}
-use Rattle.distortion.specs.Thd.{binOf, usable, thdFrom, thdAt, thdOf}
+use Rattle.distortion.specs.Thd.{fundamentalBin, usable, thdFrom, thdAt, thdOf}
 use Rattle.distortion.proofs.NotNumbers.{silent, kept-of, nan-by-cosine, nan-by-sine}
 
 -- ---- no magnitude is finite
@@ -84,17 +84,17 @@ module _ (xs : List Float) (j : ℕ) (e : finite (getD xs j nan) ≡ false) (h :
   unfolding magnitudeOf sumsOf
   magnitude-beyond bin = size-beyond (sumsTo xs bin (length xs)) (length xs) (real-beyond bin (length xs) h)
 
-  power-beyond : (bin last : ℕ) → 1 < last → finite (powerOf (magnitudeOf xs) bin 2 last) ≡ false
-  unfolding powerOf harmonicsOf squareOf
+  power-beyond : (bin last : ℕ) → 1 < last → finite (harmonicPower (magnitudeOf xs) bin 2 last) ≡ false
+  unfolding harmonicPower harmonicsOf squareOf
   power-beyond bin last l =
       let m : last + 1 - 2 ≡ suc (last - 2) = omega arith in
       ap (λ (many : ℕ). finite (harmonicsOf (magnitudeOf xs) bin 2 many)) m ∙ add-beyond binary64 _ _ (beyond-mul binary64 _ _ (magnitude-beyond (bin * (2 + (last - 2)))))
 
-  no-harmonic : (bin last : ℕ) → last ≤ 1 → powerOf (magnitudeOf xs) bin 2 last ≡ zero64
-  unfolding powerOf harmonicsOf
+  no-harmonic : (bin last : ℕ) → last ≤ 1 → harmonicPower (magnitudeOf xs) bin 2 last ≡ zero64
+  unfolding harmonicPower harmonicsOf
   no-harmonic bin last l = let m : last + 1 - 2 ≡ 0 = omega arith in ap (harmonicsOf (magnitudeOf xs) bin 2) m
 
-  at-inf : (bin last : ℕ) (earlier : Float) → thdFrom (inf false) (powerOf (magnitudeOf xs) bin 2 last) earlier ≡ besideInf last
+  at-inf : (bin last : ℕ) (earlier : Float) → thdFrom (inf false) (harmonicPower (magnitudeOf xs) bin 2 last) earlier ≡ besideInf last
   at-inf bin last earlier =
       elim (decLe last 1) [
         | yes l ↦ ap (λ (p : Float). thdFrom (inf false) p earlier) (no-harmonic bin last l) ∙ no-power earlier ∙ ap (λ (b : Bool). cond b nan zero32) (sym (le-ltb 1 last l))
@@ -106,20 +106,20 @@ module _ (xs : List Float) (j : ℕ) (e : finite (getD xs j nan) ≡ false) (h :
   infinite-at top bin earlier = go (magnitudeOf xs bin) (magnitude-beyond bin)
     where
       go : (f : Float) → finite f ≡ false
-          → (thdFrom f (powerOf (magnitudeOf xs) bin 2 (lastUpTo top (length xs / 2) bin)) earlier ≡ earlier)
-          ⊎ (thdFrom f (powerOf (magnitudeOf xs) bin 2 (lastUpTo top (length xs / 2) bin)) earlier ≡ besideInf (lastUpTo top (length xs / 2) bin))
+          → (thdFrom f (harmonicPower (magnitudeOf xs) bin 2 (lastUpTo top (length xs / 2) bin)) earlier ≡ earlier)
+          ⊎ (thdFrom f (harmonicPower (magnitudeOf xs) bin 2 (lastUpTo top (length xs / 2) bin)) earlier ≡ besideInf (lastUpTo top (length xs / 2) bin))
       go nan h = inl (silent _ earlier)
       go (inf true) h = inl (below _ earlier)
       go (inf false) h = inr (at-inf bin (lastUpTo top (length xs / 2) bin) earlier)
       go (fin s m d) h = absurd (subst T h tt)
 
   pub infinite-thd : (top : ℕ) (frequency earlier : Float)
-      → (thdOf top frequency earlier xs ≡ earlier) ⊎ (thdOf top frequency earlier xs ≡ besideInf (lastUpTo top (length xs / 2) (binOf frequency (length xs))))
+      → (thdOf top frequency earlier xs ≡ earlier) ⊎ (thdOf top frequency earlier xs ≡ besideInf (lastUpTo top (length xs / 2) (fundamentalBin frequency (length xs))))
   unfolding thdOf
   infinite-thd top frequency earlier = go (usable frequency (length xs / 2) bin) (infinite-at top bin earlier)
     where
       bin : ℕ
-      bin = binOf frequency (length xs)
+      bin = fundamentalBin frequency (length xs)
 
       go : (b : Bool) → (thdAt top bin earlier xs ≡ earlier) ⊎ (thdAt top bin earlier xs ≡ besideInf (lastUpTo top (length xs / 2) bin))
           → (cond b (thdAt top bin earlier xs) earlier ≡ earlier) ⊎ (cond b (thdAt top bin earlier xs) earlier ≡ besideInf (lastUpTo top (length xs / 2) bin))
@@ -146,5 +146,5 @@ module _ (xs : List Float) (j : ℕ) (b : Bool) (e : getD xs j nan ≡ inf b) (h
         | inr s ↦ nan-by-sine xs bin j h (rw (e, a) s)
       ]
 
-  pub quarter-thd : (top q : ℕ) (frequency earlier : Float) → q < 4 → angleOf (length xs) (binOf frequency (length xs)) j ≡ q * 1024 → thdOf top frequency earlier xs ≡ earlier
-  quarter-thd top q frequency earlier l a = kept-of xs top frequency earlier (quarter-magnitude (binOf frequency (length xs)) q l a)
+  pub quarter-thd : (top q : ℕ) (frequency earlier : Float) → q < 4 → angleOf (length xs) (fundamentalBin frequency (length xs)) j ≡ q * 1024 → thdOf top frequency earlier xs ≡ earlier
+  quarter-thd top q frequency earlier l a = kept-of xs top frequency earlier (quarter-magnitude (fundamentalBin frequency (length xs)) q l a)

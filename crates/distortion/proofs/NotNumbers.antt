@@ -14,7 +14,7 @@ use Rattle.number.specs.Number.{narrow, root}
 use Rattle.quarter.specs.Turn.{sineOf, cosineOf}
 use Rattle.spectrum.specs.declared.parts.Sums.{Sums}
 use Rattle.spectrum.specs.Bin.{angleOf, turned, sumsTo, sumsOf, sizeOf, magnitudeOf}
-use Rattle.distortion.specs.Thd.{binOf, usable, thdFrom, thdAt, thdOf}
+use Rattle.distortion.specs.Thd.{fundamentalBin, usable, thdFrom, thdAt, thdOf}
 
 never : (i : ℕ) → i < 0 → ⊥
 never i l = omega arith
@@ -70,9 +70,9 @@ kept-at : (xs : List Float) (top bin : ℕ) (earlier : Float) → magnitudeOf xs
 unfolding thdAt
 kept-at xs top bin earlier e = rw e (silent _ earlier)
 
-pub kept-of : (xs : List Float) (top : ℕ) (frequency earlier : Float) → magnitudeOf xs (binOf frequency (length xs)) ≡ nan → thdOf top frequency earlier xs ≡ earlier
+pub kept-of : (xs : List Float) (top : ℕ) (frequency earlier : Float) → magnitudeOf xs (fundamentalBin frequency (length xs)) ≡ nan → thdOf top frequency earlier xs ≡ earlier
 unfolding thdOf
-kept-of xs top frequency earlier e = rw (kept-at xs top (binOf frequency (length xs)) earlier e) (either (usable frequency (length xs / 2) (binOf frequency (length xs))))
+kept-of xs top frequency earlier e = rw (kept-at xs top (fundamentalBin frequency (length xs)) earlier e) (either (usable frequency (length xs / 2) (fundamentalBin frequency (length xs))))
   where
     either : (b : Bool) → cond b earlier earlier ≡ earlier
     either true = refl
@@ -84,4 +84,4 @@ module _ (xs : List Float) (j : ℕ) (e : getD xs j nan ≡ nan) (h : j < length
   nan-magnitude bin = nan-by-cosine xs bin j h (ap (λ (x : Float). mul binary64 x (cosineOf (angleOf (length xs) bin j))) e ∙ nan-mul binary64 _)
 
   pub nan-thd : (top : ℕ) (frequency earlier : Float) → thdOf top frequency earlier xs ≡ earlier
-  nan-thd top frequency earlier = kept-of xs top frequency earlier (nan-magnitude (binOf frequency (length xs)))
+  nan-thd top frequency earlier = kept-of xs top frequency earlier (nan-magnitude (fundamentalBin frequency (length xs)))

@@ -5,16 +5,16 @@ use mathlib.Core.List.{List}
 use Prim.Native.Nat.{ℕ, _/_}
 use lib.ListN.{length}
 use lib.Ieee.{Float, lt}
-use Rattle.laws.specs.Harmonics.{powerOf, lastUpTo}
+use Rattle.laws.specs.Harmonics.{harmonicPower, lastUpTo}
 use Rattle.laws.specs.Literals.{tiny32}
 use Rattle.laws.specs.Quotients.{percentOf}
 use Rattle.number.specs.Number.{narrowedRoot}
 use Rattle.spectrum.specs.Bin.{magnitudeOf}
-use Rattle.distortion.specs.Thd.{binOf, usable, thdFrom, thdAt, thdOf}
+use Rattle.distortion.specs.Thd.{fundamentalBin, usable, thdFrom, thdAt, thdOf}
 
 module _ (top : ℕ) (earlier : Float) (xs : List Float) where
   -- the fundamental is heard, or silent
-  pub heard : (bin last : ℕ) (f p w : Float) → f ≡ magnitudeOf xs bin → lt tiny32 f ≡ true → last ≡ lastUpTo top (length xs / 2) bin → p ≡ powerOf (magnitudeOf xs) bin 2 last
+  pub heard : (bin last : ℕ) (f p w : Float) → f ≡ magnitudeOf xs bin → lt tiny32 f ≡ true → last ≡ lastUpTo top (length xs / 2) bin → p ≡ harmonicPower (magnitudeOf xs) bin 2 last
       → w ≡ narrowedRoot p → percentOf w f ≡ thdAt top bin earlier xs
   unfolding thdAt thdFrom
   heard bin last f p w ef t el ep ew = rw (← ef, t, ew, ep, el)
@@ -24,11 +24,11 @@ module _ (top : ℕ) (earlier : Float) (xs : List Float) where
   silent bin f ef t = rw (← ef, t)
 
   -- the bin is usable, or not
-  pub worked : (frequency : Float) (bin : ℕ) (r : Float) → bin ≡ binOf frequency (length xs) → usable frequency (length xs / 2) bin ≡ true → r ≡ thdAt top bin earlier xs
+  pub worked : (frequency : Float) (bin : ℕ) (r : Float) → bin ≡ fundamentalBin frequency (length xs) → usable frequency (length xs / 2) bin ≡ true → r ≡ thdAt top bin earlier xs
       → r ≡ thdOf top frequency earlier xs
   unfolding thdOf
   worked frequency bin r e u t = rw (← e, u) t
 
-  pub kept : (frequency : Float) (bin : ℕ) → bin ≡ binOf frequency (length xs) → usable frequency (length xs / 2) bin ≡ false → earlier ≡ thdOf top frequency earlier xs
+  pub kept : (frequency : Float) (bin : ℕ) → bin ≡ fundamentalBin frequency (length xs) → usable frequency (length xs / 2) bin ≡ false → earlier ≡ thdOf top frequency earlier xs
   unfolding thdOf
   kept frequency bin e u = rw (← e, u)

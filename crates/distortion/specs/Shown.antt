@@ -6,14 +6,14 @@ use mathlib.Core.List.{List, [], _∷_, map}
 use lib.Count.{trailingZeros}
 use lib.Dec.{eqb}
 use lib.Ieee.{Float, nan, inf, add, sub, mul, div, neg, sum, round, units, odd, size, span, climb, lt, ofInt, ofBits, ofFields, toUnsigned}
-use Rattle.laws.specs.Harmonics.{harmonicsOf, powerOf, lastUpTo}
+use Rattle.laws.specs.Harmonics.{harmonicsOf, harmonicPower, lastUpTo}
 use Rattle.laws.specs.Literals.{zero32, count32}
 use Rattle.laws.specs.Samples.{squareOf}
 use Rattle.number.specs.Number.{narrow, root, narrowedRoot, wholeRoot, rootIn, roundAway}
 use Rattle.quarter.specs.Table.{quarterTable}
 use Rattle.quarter.specs.Turn.{fraction, quadrant, sineOf, cosineOf}
 use Rattle.spectrum.specs.Bin.{stepOf, angleOf, turned, sumsTo, sumsOf, sizeOf, magnitudeOf}
-use Rattle.distortion.specs.Thd.{binOf, usable, thdFrom, thdAt, thdOf}
+use Rattle.distortion.specs.Thd.{fundamentalBin, usable, thdFrom, thdAt, thdOf}
 
 abbrev eight : List ℕ
 eight = 0 ∷ 1 ∷ 2 ∷ 3 ∷ 4 ∷ 5 ∷ 6 ∷ 7 ∷ []
@@ -34,12 +34,12 @@ pub of-eight :
     map (with eight (inf false) 1) eight ∷ map (with eight (inf true) 1) eight ∷ map (with eight (inf false) 2) eight ∷ map (with eight (inf false) 3) eight ∷ []
     ≡ (e ∷ nan ∷ e ∷ nan ∷ e ∷ nan ∷ e ∷ nan ∷ []) ∷ (e ∷ nan ∷ e ∷ nan ∷ e ∷ nan ∷ e ∷ nan ∷ [])
     ∷ (e ∷ e ∷ e ∷ e ∷ e ∷ e ∷ e ∷ e ∷ []) ∷ (e ∷ zero32 ∷ e ∷ zero32 ∷ e ∷ zero32 ∷ e ∷ zero32 ∷ []) ∷ []
-unfolding thdOf thdAt thdFrom usable binOf squareOf harmonicsOf powerOf lastUpTo magnitudeOf sizeOf sumsOf sumsTo turned angleOf stepOf sineOf cosineOf quadrant fraction quarterTable narrowedRoot narrow root wholeRoot rootIn roundAway add sub mul div neg lt sum round units odd size span climb trailingZeros ofInt ofBits ofFields toUnsigned
+unfolding thdOf thdAt thdFrom usable fundamentalBin squareOf harmonicsOf harmonicPower lastUpTo magnitudeOf sizeOf sumsOf sumsTo turned angleOf stepOf sineOf cosineOf quadrant fraction quarterTable narrowedRoot narrow root wholeRoot rootIn roundAway add sub mul div neg lt sum round units odd size span climb trailingZeros ofInt ofBits ofFields toUnsigned
 of-eight = refl
 
 -- of 16 samples, at bin 1: each fourth place keeps the THD before
 pub of-sixteen :
     map (with sixteen (inf false) 1) sixteen
     ≡ e ∷ nan ∷ nan ∷ nan ∷ e ∷ nan ∷ nan ∷ nan ∷ e ∷ nan ∷ nan ∷ nan ∷ e ∷ nan ∷ nan ∷ nan ∷ []
-unfolding thdOf thdAt thdFrom usable binOf squareOf harmonicsOf powerOf lastUpTo magnitudeOf sizeOf sumsOf sumsTo turned angleOf stepOf sineOf cosineOf quadrant fraction quarterTable narrowedRoot narrow root wholeRoot rootIn roundAway add sub mul div neg lt sum round units odd size span climb trailingZeros ofInt ofBits ofFields toUnsigned
+unfolding thdOf thdAt thdFrom usable fundamentalBin squareOf harmonicsOf harmonicPower lastUpTo magnitudeOf sizeOf sumsOf sumsTo turned angleOf stepOf sineOf cosineOf quadrant fraction quarterTable narrowedRoot narrow root wholeRoot rootIn roundAway add sub mul div neg lt sum round units odd size span climb trailingZeros ofInt ofBits ofFields toUnsigned
 of-sixteen = refl

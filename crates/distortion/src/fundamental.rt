@@ -23,7 +23,7 @@ fn saturated(x: f32) -> u64
 // The bin nearest to the frequency, of n samples in one second.
 pub fn fundamental_bin(frequency: f32, n: usize) -> usize
     requires { ⌜ n ≤ 4096 ⌝ }
-    ensures { λ r. ⌜ r ≡ Thd.binOf frequency n ⌝ }
+    ensures { λ r. ⌜ r ≡ Thd.fundamentalBin frequency n ⌝ }
 {
     let rate = n as f32;
     saturated(number::round32(frequency * rate / rate)) as usize

@@ -4,7 +4,7 @@ ghost use mathlib.Core.Bool.{true};
 ghost use Prim.Native.Nat.{_*_, _/_, _<_, _≤_};
 ghost use lib.ListN.{length};
 ghost use lib.Ieee.{binary64, add};
-ghost use Rattle.laws.specs.Harmonics.{powerOf, lastUpTo};
+ghost use Rattle.laws.specs.Harmonics.{harmonicPower, lastUpTo};
 ghost use Rattle.laws.specs.Samples.{squareOf};
 ghost use Rattle.quarter.specs.Table.{quarterTable};
 ghost use Rattle.spectrum.specs.Bin.{magnitudeOf};
@@ -35,7 +35,7 @@ fn harmonic_power(table: &[u32; 1025], samples: &[f32], bin: usize, last: usize)
     requires { ⌜ onGrid (length (now samples)) ≡ true ⌝ }
     requires { ⌜ bin * last < length (now samples) ⌝ }
     requires { ⌜ (1 ≤ last) × (last ≤ 65536) ⌝ }
-    ensures { λ r. ⌜ r ≡ powerOf (magnitudeOf (now (samples .entry))) bin 2 last ⌝ }
+    ensures { λ r. ⌜ r ≡ harmonicPower (magnitudeOf (now (samples .entry))) bin 2 last ⌝ }
 {
     let mut sum = 0.0;
     let mut order: usize = 2;

@@ -16,7 +16,7 @@ use Rattle.laws.specs.Samples.{higher, lower, squareOf}
 use Rattle.laws.specs.Walks.{over, pairs}
 use Rattle.laws.proofs.NotNumber.{sub-nan, nan-sub, lt-nan, nan-lt, le-nan, nan-le}
 use Rattle.number.specs.Number.{narrow, root, abs}
-use Rattle.timing.specs.Timing.{totalOf, meanOf, risesAt, crossingAt, noCrossing, crossingsOf, frequencyFrom, frequencyAbout, slewAt, steepestOf, slewOf}
+use Rattle.timing.specs.Timing.{totalOf, narrowedMean, risesAt, crossingAt, noCrossing, crossingsOf, frequencyFrom, frequencyAbout, slewAt, steepestOf, slewOf}
 use Rattle.figures.specs.declared.edges.Edges.{Edges}
 use Rattle.figures.specs.Levels.{maxOf, minOf, adding, sumOf, away, averageOf, rectifiedOf, dcRmsOf, acRmsOf}
 use Rattle.figures.specs.Duty.{millionth, near, isHigh, tally, highsOf}
@@ -83,12 +83,12 @@ module _ (xs ys : List Float) where
 
   -- the means and RMS values are NaN
   pub nan-average : averageOf (withNan xs ys) ≡ nan
-  unfolding averageOf totalOf meanOf div narrow
-  nan-average = ap (λ (t : Float). meanOf t (length (withNan xs ys))) (sum-nan (λ (x : Float). x) refl xs ys)
+  unfolding averageOf totalOf narrowedMean div narrow
+  nan-average = ap (λ (t : Float). narrowedMean t (length (withNan xs ys))) (sum-nan (λ (x : Float). x) refl xs ys)
 
-  mean-nan : (f : Float → Float) → f nan ≡ nan → meanOf (sumOf f (withNan xs ys)) (length (withNan xs ys)) ≡ nan
-  unfolding sumOf meanOf div narrow
-  mean-nan f h = ap (λ (t : Float). meanOf t (length (withNan xs ys))) (sum-nan f h xs ys)
+  mean-nan : (f : Float → Float) → f nan ≡ nan → narrowedMean (sumOf f (withNan xs ys)) (length (withNan xs ys)) ≡ nan
+  unfolding sumOf narrowedMean div narrow
+  mean-nan f h = ap (λ (t : Float). narrowedMean t (length (withNan xs ys))) (sum-nan f h xs ys)
 
   square-nan : squareOf nan ≡ nan
   unfolding squareOf mul

@@ -7,13 +7,13 @@ use Rattle.generator.specs.declared.Wave.{Wave}
 use Rattle.laws.specs.Literals.{one32, count32}
 use Rattle.laws.specs.Quotients.{ratioOrZero}
 use Rattle.number.specs.Number.{root}
-use Rattle.timing.specs.Timing.{meanOf, frequencyAbout, slewOf}
+use Rattle.timing.specs.Timing.{narrowedMean, frequencyAbout, slewOf}
 use Rattle.figures.specs.declared.levels.Extremes.{Extremes}
 use Rattle.figures.specs.declared.levels.Sums.{Sums}
 use Rattle.figures.specs.declared.levels.Levels.{Levels}
 use Rattle.figures.specs.declared.edges.Times.{Times}
 use Rattle.figures.specs.declared.TimeFigures.{TimeFigures}
-use Rattle.figures.specs.Levels.{extremesOf, sumsOf, rippleOf, averageOf, rectifiedOf, dcRmsOf, acRmsOf, levelsOf}
+use Rattle.figures.specs.Levels.{extremesOf, levelSums, rippleOf, averageOf, rectifiedOf, dcRmsOf, acRmsOf, levelsOf}
 use Rattle.figures.specs.Duty.{dutyOf}
 use Rattle.figures.specs.Edges.{edgesBetween, timesOf}
 use Rattle.figures.specs.Ratios.{crestOf, periodOf, excessOf}
@@ -24,10 +24,10 @@ abbrev levelsWith : Extremes → (average dc ac rectified : Float) → Levels
 levelsWith e average dc ac rectified = record { max = e .max; min = e .min; average = average; «dc_rms» = dc; «ac_rms» = ac; rectified = rectified }
 
 pub levels-whole : (xs : List Float) {e : Extremes} {s : Sums} {average spread dc-square dc ac-square ac rectified : Float}
-    → e ≡ extremesOf xs → s ≡ sumsOf xs → average ≡ meanOf (s .total) (length xs) → spread ≡ rippleOf average xs
-    → dc-square ≡ meanOf (s .squares) (length xs) → dc ≡ root binary32 dc-square
-    → ac-square ≡ meanOf spread (length xs) → ac ≡ root binary32 ac-square
-    → rectified ≡ meanOf (s .sizes) (length xs)
+    → e ≡ extremesOf xs → s ≡ levelSums xs → average ≡ narrowedMean (s .total) (length xs) → spread ≡ rippleOf average xs
+    → dc-square ≡ narrowedMean (s .squares) (length xs) → dc ≡ root binary32 dc-square
+    → ac-square ≡ narrowedMean spread (length xs) → ac ≡ root binary32 ac-square
+    → rectified ≡ narrowedMean (s .sizes) (length xs)
     → levelsWith e average dc ac rectified ≡ levelsOf xs
 unfolding averageOf rectifiedOf dcRmsOf acRmsOf
 levels-whole xs e s av sp dq dc aq ac re = rw (re, ac, aq, dc, dq, sp, av, s, e)

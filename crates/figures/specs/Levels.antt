@@ -8,7 +8,7 @@ use Rattle.laws.specs.Literals.{zero64}
 use Rattle.laws.specs.Samples.{higher, lower, squareOf}
 use Rattle.laws.specs.Walks.{over}
 use Rattle.number.specs.Number.{root, abs}
-use Rattle.timing.specs.Timing.{totalOf, meanOf}
+use Rattle.timing.specs.Timing.{totalOf, narrowedMean}
 use Rattle.figures.specs.declared.levels.Extremes.{Extremes}
 use Rattle.figures.specs.declared.levels.Sums.{Sums}
 use Rattle.figures.specs.declared.levels.Levels.{Levels}
@@ -40,27 +40,27 @@ away average x = squareOf (sub binary32 x average)
 abbrev pub rippleOf : Float → List Float → Float
 rippleOf average xs = sumOf (away average) xs
 
-abbrev pub sumsOf : List Float → Sums
-sumsOf xs = record { total = totalOf xs; squares = sumOf squareOf xs; sizes = sumOf abs xs }
+abbrev pub levelSums : List Float → Sums
+levelSums xs = record { total = totalOf xs; squares = sumOf squareOf xs; sizes = sumOf abs xs }
 
 -- ---- means, each an f64 quotient, narrowed once
 
 unfoldable pub averageOf : List Float → Float
-averageOf xs = meanOf (totalOf xs) (length xs)
+averageOf xs = narrowedMean (totalOf xs) (length xs)
 
 -- the rectified mean: of the sizes
 unfoldable pub rectifiedOf : List Float → Float
-rectifiedOf xs = meanOf (sumOf abs xs) (length xs)
+rectifiedOf xs = narrowedMean (sumOf abs xs) (length xs)
 
 -- ---- RMS. 01, "`dc_rms` narrows the mean square to f32 and then takes the f32 root"
 
 -- with the DC part
 unfoldable pub dcRmsOf : List Float → Float
-dcRmsOf xs = root binary32 (meanOf (sumOf squareOf xs) (length xs))
+dcRmsOf xs = root binary32 (narrowedMean (sumOf squareOf xs) (length xs))
 
 -- without it
 unfoldable pub acRmsOf : List Float → Float
-acRmsOf xs = root binary32 (meanOf (rippleOf (averageOf xs) xs) (length xs))
+acRmsOf xs = root binary32 (narrowedMean (rippleOf (averageOf xs) xs) (length xs))
 
 -- ---- all six
 

@@ -12,7 +12,7 @@ use Rattle.laws.specs.Quotients.{ratioOrZero}
 use Rattle.laws.specs.Samples.{higher, lower, squareOf}
 use Rattle.laws.specs.Walks.{over, pairs}
 use Rattle.number.specs.Number.{narrow, root, narrowedRoot, abs}
-use Rattle.timing.specs.Timing.{totalOf, meanOf, risesAt, firstOf, crossingAt, crossingsOf, frequencyFrom, frequencyAbout, slewAt, steepestOf, slewOf}
+use Rattle.timing.specs.Timing.{totalOf, narrowedMean, risesAt, firstOf, crossingAt, crossingsOf, frequencyFrom, frequencyAbout, slewAt, steepestOf, slewOf}
 use Rattle.figures.specs.declared.TimeFigures.{TimeFigures}
 use Rattle.figures.specs.Levels.{maxOf, minOf, sumOf, averageOf, rectifiedOf, dcRmsOf, acRmsOf}
 use Rattle.figures.specs.Duty.{near, highsOf, dutyOf}
@@ -99,7 +99,7 @@ records =
     ∷ []
 
 pub records-hold : map (λ (w : Whole). fields (figuresOf (w .wave) (w .amplitude) (w .frequency) (w .samples))) records ≡ map (λ (w : Whole). w .figures) records
-unfolding over pairs higher lower squareOf totalOf meanOf risesAt firstOf crossingAt crossingsOf frequencyFrom frequencyAbout slewAt steepestOf slewOf maxOf minOf sumOf averageOf rectifiedOf dcRmsOf acRmsOf near highsOf dutyOf riseBegins riseCounts fallBegins fallCounts edgeAt edgesOf sampleTimeOf timesOf ratioOrZero crestOf periodOf excessOf figuresOf narrow root abs add sub mul div neg lt le ofInt ofBits
+unfolding over pairs higher lower squareOf totalOf narrowedMean risesAt firstOf crossingAt crossingsOf frequencyFrom frequencyAbout slewAt steepestOf slewOf maxOf minOf sumOf averageOf rectifiedOf dcRmsOf acRmsOf near highsOf dutyOf riseBegins riseCounts fallBegins fallCounts edgeAt edgesOf sampleTimeOf timesOf ratioOrZero crestOf periodOf excessOf figuresOf narrow root abs add sub mul div neg lt le ofInt ofBits
 records-hold = refl
 
 -- ---- 01: "One RMS for the record and for power: the two round in different places." Of 0, 0, 5 the record's, which narrows the mean square and then takes
@@ -111,5 +111,5 @@ step = map count32 (0 ∷ 0 ∷ 5 ∷ [])
 pub roots-differ :
     dcRmsOf step ∷ narrowedRoot (div binary64 (sumOf squareOf step) (count64 (length step))) ∷ []
     ≡ b 0x4038C088 ∷ b 0x4038C089 ∷ []
-unfolding over squareOf meanOf sumOf dcRmsOf narrowedRoot narrow root add mul div ofInt ofBits
+unfolding over squareOf narrowedMean sumOf dcRmsOf narrowedRoot narrow root add mul div ofInt ofBits
 roots-differ = refl

@@ -7,7 +7,7 @@ ghost use lib.Ieee.{inf};
 ghost use Rattle.answers.specs.Numbers.{longest};
 ghost use Rattle.laws.specs.Samples.{higher, lower};
 ghost use Rattle.laws.specs.Walks.{over};
-ghost use Rattle.figures.specs.Levels.{extremesOf, sumsOf, rippleOf, levelsOf};
+ghost use Rattle.figures.specs.Levels.{extremesOf, levelSums, rippleOf, levelsOf};
 use number::parts::lowered;
 use number::parts::raised;
 use timing::parts::mean;
@@ -60,7 +60,7 @@ pub struct Sums {
 
 // The three sums in one loop: their additions run side by side. The first NaN decides all three.
 fn sum_up(samples: &[f32]) -> Sums
-    ensures { λ r. ⌜ r ≡ sumsOf (now (samples .entry)) ⌝ }
+    ensures { λ r. ⌜ r ≡ levelSums (now (samples .entry)) ⌝ }
 {
     let mut total: f64 = 0.0;
     let mut squares: f64 = 0.0;

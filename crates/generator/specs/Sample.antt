@@ -53,8 +53,8 @@ pwmAt s n i =
 -- ---- the two ramps
 
 -- a period in seconds
-unfoldable pub period : Shape → Float
-period s = div binary32 one32 (s .frequency)
+unfoldable pub periodSeconds : Shape → Float
+periodSeconds s = div binary32 one32 (s .frequency)
 
 -- the phase as a time in seconds: the Rust's `phase_rad / angular_freq`, the phase in radians over the radians in a second
 unfoldable pub shift : Shape → Float
@@ -62,19 +62,19 @@ shift s = div binary32 (div binary32 (mul binary32 (s .phase) pi) half-turn) (mu
 
 -- where in its period place i of n lies, in seconds: the samples are one second
 unfoldable pub tMod : Shape → Float → Float → Float
-tMod s n i = rem binary32 (add binary32 (div binary32 i n) (shift s)) (period s)
+tMod s n i = rem binary32 (add binary32 (div binary32 i n) (shift s)) (periodSeconds s)
 
 -- up from minus the amplitude in the first half of a period, and down again in the second
 unfoldable pub triangularAt : Shape → Float → Float → Float
 triangularAt s n i =
-    let normalized = div binary32 (tMod s n i) (period s) in
+    let normalized = div binary32 (tMod s n i) (periodSeconds s) in
     cond (lt normalized half)
     (mul binary32 (s .amplitude) (sub binary32 (mul binary32 four normalized) one32))
     (mul binary32 (s .amplitude) (sub binary32 three (mul binary32 four normalized)))
 
 -- up from minus the amplitude through the whole period
 unfoldable pub sawtoothAt : Shape → Float → Float → Float
-sawtoothAt s n i = mul binary32 (s .amplitude) (sub binary32 (div binary32 (mul binary32 two (tMod s n i)) (period s)) one32)
+sawtoothAt s n i = mul binary32 (s .amplitude) (sub binary32 (div binary32 (mul binary32 two (tMod s n i)) (periodSeconds s)) one32)
 
 -- ---- all waves
 

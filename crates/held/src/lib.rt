@@ -3,7 +3,7 @@ mod parts;
 
 ghost use mathlib.Core.Path.{_≡_};
 ghost use Rattle.signal.specs.State.{metricsOf};
-ghost use Rattle.signal.specs.Calls.{highest, newOf, portOf, phaseSet, dutySet, resetOf};
+ghost use Rattle.signal.specs.Calls.{highest, newOf, newPortOf, phaseSet, dutySet, resetOf};
 ghost use Rattle.port.specs.Fields.{number, reading};
 ghost use Rattle.port.specs.Fields as Fields;
 ghost use Rattle.port.specs.Readings.{instantaneousPower};
@@ -39,7 +39,7 @@ impl<'a> Signal<'a> {
         frequency: Reading,
         samples: &'a mut [f32],
     ) -> Signal<'a>
-        ensures { λ r. ⌜ r ≡ beside (samples .entry) (portOf highest voltage current frequency (now (samples .entry))) ⌝ }
+        ensures { λ r. ⌜ r ≡ beside (samples .entry) (newPortOf highest voltage current frequency (now (samples .entry))) ⌝ }
     {
         let answer = signal::new_power_port(voltage, current, frequency, &mut *samples);
         Signal {

@@ -6,7 +6,7 @@ use native.Mathlib.Omega.{arith}
 use lib.Ieee.{Float, binary64, add}
 use Rattle.laws.specs.Literals.{zero64}
 use Rattle.laws.specs.Samples.{squareOf}
-use Rattle.laws.specs.Harmonics.{harmonicsOf, powerOf, lastOrder, lastUpTo}
+use Rattle.laws.specs.Harmonics.{harmonicsOf, harmonicPower, lastOrder, lastUpTo}
 
 -- ---- the sum
 module _ (magnitude : ℕ → Float) (b first : ℕ) where
@@ -37,8 +37,8 @@ module _ (magnitude : ℕ → Float) (b first : ℕ) where
       up f h l = omega arith
 
   -- up to the last order
-  pub all-orders : (h last : ℕ) {t : Float} → h ≡ last + 1 → t ≡ harmonicsOf magnitude b first (h - first) → t ≡ powerOf magnitude b first last
-  unfolding powerOf
+  pub all-orders : (h last : ℕ) {t : Float} → h ≡ last + 1 → t ≡ harmonicsOf magnitude b first (h - first) → t ≡ harmonicPower magnitude b first last
+  unfolding harmonicPower
   all-orders h last e p = p ∙ ap (λ (x : ℕ). harmonicsOf magnitude b first (x - first)) e
 
 -- ---- the orders

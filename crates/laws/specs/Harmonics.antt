@@ -10,8 +10,8 @@ harmonicsOf magnitude b first zero = zero64
 harmonicsOf magnitude b first (suc many) = add binary64 (harmonicsOf magnitude b first many) (squareOf (magnitude (b * (first + many))))
 
 -- by the orders from `first` to `last`
-unfoldable pub powerOf : (ℕ → Float) → ℕ → ℕ → ℕ → Float
-powerOf magnitude b first last = harmonicsOf magnitude b first (last + 1 - first)
+unfoldable pub harmonicPower : (ℕ → Float) → ℕ → ℕ → ℕ → Float
+harmonicPower magnitude b first last = harmonicsOf magnitude b first (last + 1 - first)
 
 -- 01, "the first multiple at or past the end of the spectrum ends the sum": the last order whose multiple of b is below the end
 abbrev pub lastOrder : ℕ → ℕ → ℕ

@@ -5,10 +5,10 @@ use native.Mathlib.Omega.{arith}
 use borrow.Author.Count.{below-none, below-more}
 use lib.ListN.{set}
 use Rattle.port.specs.declared.Port.{Port}
-use Rattle.port.specs.Fields.{Cell, number, reading, places, flag, cells, cellAt, numberIn, slotIn, placesIn, flagIn, portOf, put}
+use Rattle.port.specs.Fields.{Cell, number, reading, places, flag, cells, cellAt, numberIn, slotIn, placesIn, flagIn, portWith, put}
 
 -- so `cells` tells any two ports apart
-pub whole : (p : Port) → portOf (cells p) ≡ p
+pub whole : (p : Port) → portWith (cells p) ≡ p
 whole p = refl
 
 -- the kind of what a cell holds

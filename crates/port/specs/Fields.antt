@@ -157,8 +157,8 @@ abbrev pub cellAt : List Cell → ℕ → Cell
 cellAt l i = getD l i (flag false)
 
 -- the port with these fields
-abbrev pub portOf : List Cell → Port
-portOf l = record {
+abbrev pub portWith : List Cell → Port
+portWith l = record {
   voltage = numberIn (cellAt l at-voltage);
   current = numberIn (cellAt l at-current);
   frequency = slotIn (cellAt l at-frequency);
@@ -189,4 +189,4 @@ portOf l = record {
 
 -- 01, item 9, what each setter does: p with the field at i set to x, and all others as they were
 abbrev pub put : Port → ℕ → Cell → Port
-put p i x = portOf (set (cells p) i x)
+put p i x = portWith (set (cells p) i x)

@@ -9,7 +9,7 @@ use Rattle.laws.specs.Walks.{over}
 use Rattle.laws.specs.Filled.{filled}
 use Rattle.laws.proofs.Filling.{filled-at, filled-length}
 use Rattle.power.specs.declared.parts.Sums.{Sums}
-use Rattle.power.specs.Power.{sumTo, sumsTo}
+use Rattle.power.specs.Power.{sumTo, captureSums}
 use Rattle.power.specs.Blocks.{productFrom, added}
 
 next : (x y : List Float) (j : ℕ) → add binary64 (sumTo x y j) (mul binary64 (getD x j nan) (getD y j nan)) ≡ sumTo x y (suc j)
@@ -25,8 +25,8 @@ block-sum x y from m out (suc k) h l =
     rw (block-sum x y from m out k (omega arith) l, filled-at (productFrom x y from) m out nan k (omega arith) (omega arith)) (next x y (from + k) ∙ ap (sumTo x y) e)
 
 -- the three sums behind a block of m pairs, whose products were put into buffers
-pub block-sums : (v i : List Float) (from m : ℕ) (a b c a₁ b₁ c₁ : List Float) {t r : Sums} → m ≤ length a → m ≤ length b → m ≤ length c → t ≡ sumsTo v i from
-    → a₁ ≡ filled (productFrom v i from) m a → b₁ ≡ filled (productFrom v v from) m b → c₁ ≡ filled (productFrom i i from) m c → r ≡ added t m a₁ b₁ c₁ → r ≡ sumsTo v i (from + m)
+pub block-sums : (v i : List Float) (from m : ℕ) (a b c a₁ b₁ c₁ : List Float) {t r : Sums} → m ≤ length a → m ≤ length b → m ≤ length c → t ≡ captureSums v i from
+    → a₁ ≡ filled (productFrom v i from) m a → b₁ ≡ filled (productFrom v v from) m b → c₁ ≡ filled (productFrom i i from) m c → r ≡ added t m a₁ b₁ c₁ → r ≡ captureSums v i (from + m)
 block-sums v i from m a b c a₁ b₁ c₁ p q s e x y z h =
     rw (h, e, x, y, z, block-sum v i from m a m (omega arith) p, block-sum v v from m b m (omega arith) q, block-sum i i from m c m (omega arith) s)
 

@@ -16,7 +16,7 @@ use Rattle.laws.proofs.Zero.{Null}
 use Rattle.answers.specs.declared.Outcome.the-variants.{Done}
 use Rattle.answers.specs.Numbers.{longest}
 use Rattle.power.specs.declared.Power.{Power}
-use Rattle.power.specs.Power.{sumTo, sumsTo, recordOf, nanPower, answered, answerOf}
+use Rattle.power.specs.Power.{sumTo, captureSums, recordOf, nanPower, answered, answerOf}
 use Rattle.power.proofs.Infinite.{besideInf, besideNan, rmsOf, sum-beyond, voltage-inf, voltage-alone, current-inf, current-alone, rms-inf}
 use Rattle.power.proofs.NotNumbers.{nan-voltage, nan-current}
 use Rattle.power.proofs.OneInfinity.{Finite, FiniteBut, sum-one, one-numbers}
@@ -48,7 +48,7 @@ module _ (xs : List Float) (j : ℕ) (e : getD xs j nan ≡ nan) where
 
 -- a capture that is taken, of at least one pair
 module _ (v i : List Float) (j : ℕ) (h : j < length v) (l : length v ≤ longest) (e : length v ≡ length i) where
-  taken : (w : Power) → recordOf (sumsTo v i (length v)) ≡ w → answerOf v i ≡ answered Done w
+  taken : (w : Power) → recordOf (captureSums v i (length v)) ≡ w → answerOf v i ≡ answered Done w
   taken w r = refusals v i .done l (subst (λ (n : ℕ). n ≤ longest) e l) e ∙ ap (answered Done) (some-pairs v i (λ z. none (length v) h z) ∙ r)
     where
       none : (n : ℕ) → j < n → n ≡ 0 → ⊥

@@ -24,7 +24,7 @@ use Rattle.laws.proofs.Zero.{Null}
 use Rattle.number.specs.Number.{narrow, root, narrowedRoot}
 use Rattle.answers.specs.Numbers.{longest}
 use Rattle.power.specs.declared.Power.{Power}
-use Rattle.power.specs.Power.{sumTo, sumsTo, meanOf, activeOf, apparentOf, aboveZero, reactiveOf, recordWith, recordOf}
+use Rattle.power.specs.Power.{sumTo, captureSums, mean64, activeOf, apparentOf, aboveZero, reactiveOf, recordWith, recordOf}
 
 never : (i : ℕ) → i < 0 → ⊥
 never i h = omega arith
@@ -44,8 +44,8 @@ module _ (x y : List Float) (j : ℕ) (h : finite (getD x j nan) ≡ false) wher
       ]
 
 -- ---- a mean that is not finite is the sum itself, and so is what it narrows to
-mean-same : (t : Float) (n : ℕ) → n ≤ longest → finite t ≡ false → meanOf t n ≡ t
-unfolding meanOf ofInt div
+mean-same : (t : Float) (n : ℕ) → n ≤ longest → finite t ≡ false → mean64 t n ≡ t
+unfolding mean64 ofInt div
 mean-same nan n l h = refl
 mean-same (fin s m e) n l h = absurd (subst T h tt)
 mean-same (inf s) n l h = go s (round binary64 false n 1) (round-whole binary64 false n (le-trans l (lit≤ tt)))
@@ -202,7 +202,7 @@ times-null nan h = absurd h
 times-null (inf s) h = absurd h
 times-null (fin s m e) h = (rw h, rw h)
 
-root-inf : (n : ℕ) → n ≤ longest → narrowedRoot (meanOf (inf false) n) ≡ inf false
+root-inf : (n : ℕ) → n ≤ longest → narrowedRoot (mean64 (inf false) n) ≡ inf false
 unfolding narrowedRoot narrow root
 root-inf n l = ap narrowedRoot (mean-same (inf false) n l refl)
 
@@ -215,7 +215,7 @@ besideNan p = record { p = p; q = zero32; s = nan; pf = zero32 }
 
 -- the root mean square of the first n samples
 abbrev pub rmsOf : List Float → ℕ → Float
-rmsOf x n = narrowedRoot (meanOf (sumTo x x n) n)
+rmsOf x n = narrowedRoot (mean64 (sumTo x x n) n)
 
 with-inf : (p s : Float) → finite p ≡ false → s ≡ inf false → recordWith p s ≡ besideInf p
 with-inf p s h e = rw (e, no-reactive p (inf false) h, over-inf p h)
@@ -225,27 +225,27 @@ with-nan p s h e = rw (e, no-reactive p nan h, over-nan p)
 
 -- p is the sum of the products itself where that is not finite
 module _ (v i : List Float) (n : ℕ) (l : n ≤ longest) where
-  pub settled : finite (sumTo v i n) ≡ false → recordOf (sumsTo v i n) ≡ recordWith (sumTo v i n) (apparentOf (sumsTo v i n))
+  pub settled : finite (sumTo v i n) ≡ false → recordOf (captureSums v i n) ≡ recordWith (sumTo v i n) (apparentOf (captureSums v i n))
   unfolding recordOf activeOf
-  settled a = ap (λ (p : Float). recordWith p (apparentOf (sumsTo v i n))) (ap narrow (mean-same (sumTo v i n) n l a) ∙ narrow-same (sumTo v i n) a)
+  settled a = ap (λ (p : Float). recordWith p (apparentOf (captureSums v i n))) (ap narrow (mean-same (sumTo v i n) n l a) ∙ narrow-same (sumTo v i n) a)
 
-  pub with-rms : (w : Power) → finite (sumTo v i n) ≡ false → recordWith (sumTo v i n) (mul binary32 (rmsOf v n) (rmsOf i n)) ≡ w → recordOf (sumsTo v i n) ≡ w
+  pub with-rms : (w : Power) → finite (sumTo v i n) ≡ false → recordWith (sumTo v i n) (mul binary32 (rmsOf v n) (rmsOf i n)) ≡ w → recordOf (captureSums v i n) ≡ w
   unfolding apparentOf
   with-rms w a e = settled a ∙ e
 
   -- the voltage's root mean square, or the current's, is infinite; the other is above 0, or is 0
   module _ (a : finite (sumTo v i n) ≡ false) where
-    pub voltage-inf : rmsOf v n ≡ inf false → T (above (rmsOf i n)) → recordOf (sumsTo v i n) ≡ besideInf (sumTo v i n)
+    pub voltage-inf : rmsOf v n ≡ inf false → T (above (rmsOf i n)) → recordOf (captureSums v i n) ≡ besideInf (sumTo v i n)
     voltage-inf e t = with-rms _ a (with-inf _ _ a (ap (λ (r : Float). mul binary32 r (rmsOf i n)) e ∙ times-inf (rmsOf i n) t .0))
 
-    pub voltage-alone : rmsOf v n ≡ inf false → Null (rmsOf i n) → recordOf (sumsTo v i n) ≡ besideNan (sumTo v i n)
+    pub voltage-alone : rmsOf v n ≡ inf false → Null (rmsOf i n) → recordOf (captureSums v i n) ≡ besideNan (sumTo v i n)
     voltage-alone e t = with-rms _ a (with-nan _ _ a (ap (λ (r : Float). mul binary32 r (rmsOf i n)) e ∙ times-null (rmsOf i n) t .0))
 
-    pub current-inf : rmsOf i n ≡ inf false → T (above (rmsOf v n)) → recordOf (sumsTo v i n) ≡ besideInf (sumTo v i n)
+    pub current-inf : rmsOf i n ≡ inf false → T (above (rmsOf v n)) → recordOf (captureSums v i n) ≡ besideInf (sumTo v i n)
     current-inf e t = with-rms _ a (with-inf _ _ a (ap (mul binary32 (rmsOf v n)) e ∙ times-inf (rmsOf v n) t .1))
 
-    pub current-alone : rmsOf i n ≡ inf false → Null (rmsOf v n) → recordOf (sumsTo v i n) ≡ besideNan (sumTo v i n)
+    pub current-alone : rmsOf i n ≡ inf false → Null (rmsOf v n) → recordOf (captureSums v i n) ≡ besideNan (sumTo v i n)
     current-alone e t = with-rms _ a (with-nan _ _ a (ap (mul binary32 (rmsOf v n)) e ∙ times-null (rmsOf v n) t .1))
 
 pub rms-inf : (x : List Float) (j : ℕ) (b : Bool) → allNumbers x ≡ true → getD x j nan ≡ inf b → j < length x → length x ≤ longest → rmsOf x (length x) ≡ inf false
-rms-inf x j b a e h l = ap (λ (t : Float). narrowedRoot (meanOf t (length x))) (squares-inf x a j b e (length x) h (le-refl (length x))) ∙ root-inf (length x) l
+rms-inf x j b a e h l = ap (λ (t : Float). narrowedRoot (mean64 t (length x))) (squares-inf x a j b e (length x) h (le-refl (length x))) ∙ root-inf (length x) l

@@ -11,7 +11,7 @@ use Rattle.laws.specs.Walks.{over}
 use Rattle.laws.specs.Samples.{stillNumbers, numbersIn, allNumbers}
 use Rattle.laws.proofs.NotNumber.{tested-nan, add-nan, nan-add, mul-nan, nan-mul}
 use Rattle.number.specs.Number.{narrow, root, narrowedRoot}
-use Rattle.power.specs.Power.{sumTo, sumsTo, meanOf, activeOf, apparentOf, aboveZero, reactiveOf, recordWith, recordOf, nanPower}
+use Rattle.power.specs.Power.{sumTo, captureSums, mean64, activeOf, apparentOf, aboveZero, reactiveOf, recordWith, recordOf, nanPower}
 
 -- ---- in a sum: of x with any other samples, on either side
 pub sum-nan : (x y : List Float) (n : ℕ) → over stillNumbers true x n ≡ false → (sumTo x y n ≡ nan) × (sumTo y x n ≡ nan)
@@ -28,20 +28,20 @@ both-nan : recordWith nan nan ≡ nanPower
 unfolding reactiveOf narrowedRoot aboveZero ratioOrZero narrow root mul sub add lt ofBits
 both-nan = refl
 
-root-nan : (n : ℕ) → narrowedRoot (meanOf nan n) ≡ nan
-unfolding narrowedRoot meanOf narrow root div
+root-nan : (n : ℕ) → narrowedRoot (mean64 nan n) ≡ nan
+unfolding narrowedRoot mean64 narrow root div
 root-nan n = refl
 
-mean-nan : (n : ℕ) → narrow (meanOf nan n) ≡ nan
-unfolding meanOf narrow div
+mean-nan : (n : ℕ) → narrow (mean64 nan n) ≡ nan
+unfolding mean64 narrow div
 mean-nan n = refl
 
-pub nan-voltage : (v i : List Float) → allNumbers v ≡ false → recordOf (sumsTo v i (length v)) ≡ nanPower
+pub nan-voltage : (v i : List Float) → allNumbers v ≡ false → recordOf (captureSums v i (length v)) ≡ nanPower
 unfolding allNumbers numbersIn recordOf activeOf apparentOf
 nan-voltage v i e =
-    rw (sum-nan v i (length v) e .0, sum-nan v v (length v) e .0, mean-nan (length v), root-nan (length v), nan-mul binary32 (narrowedRoot (meanOf (sumTo i i (length v)) (length v)))) both-nan
+    rw (sum-nan v i (length v) e .0, sum-nan v v (length v) e .0, mean-nan (length v), root-nan (length v), nan-mul binary32 (narrowedRoot (mean64 (sumTo i i (length v)) (length v)))) both-nan
 
-pub nan-current : (v i : List Float) → length v ≡ length i → allNumbers i ≡ false → recordOf (sumsTo v i (length v)) ≡ nanPower
+pub nan-current : (v i : List Float) → length v ≡ length i → allNumbers i ≡ false → recordOf (captureSums v i (length v)) ≡ nanPower
 unfolding allNumbers numbersIn recordOf activeOf apparentOf
 nan-current v i l e =
-    rw (l, sum-nan i v (length i) e .1, sum-nan i i (length i) e .0, mean-nan (length i), root-nan (length i), mul-nan binary32 (narrowedRoot (meanOf (sumTo v v (length i)) (length i)))) both-nan
+    rw (l, sum-nan i v (length i) e .1, sum-nan i i (length i) e .0, mean-nan (length i), root-nan (length i), mul-nan binary32 (narrowedRoot (mean64 (sumTo v v (length i)) (length i)))) both-nan

@@ -14,7 +14,7 @@ use Rattle.answers.specs.declared.Outcome.{Outcome}
 use Rattle.answers.specs.declared.Outcome.the-variants.{Done, LengthsDiffer, TooLong}
 use Rattle.answers.specs.Numbers.{numberOf, longest, tooLong, refuse}
 use Rattle.power.specs.declared.Power.{Power}
-use Rattle.power.specs.Power.{sumsTo, recordOf, zeroPower, answered, powerOf, outcomeOf, answerOf}
+use Rattle.power.specs.Power.{captureSums, recordOf, zeroPower, answered, powerOf, outcomeOf, answerOf}
 
 -- ---- how a call with n volts and m amps ends
 pub long-volts : (n m : ℕ) → longest < n → outcomeOf n m ≡ TooLong
@@ -53,7 +53,7 @@ pub no-pairs : (v i : List Float) → length v ≡ 0 → powerOf v i ≡ zeroPow
 unfolding powerOf
 no-pairs v i h = simp (eq-eqb _ _ h)
 
-pub some-pairs : (v i : List Float) → (length v ≡ 0 → ⊥) → powerOf v i ≡ recordOf (sumsTo v i (length v))
+pub some-pairs : (v i : List Float) → (length v ≡ 0 → ⊥) → powerOf v i ≡ recordOf (captureSums v i (length v))
 unfolding powerOf
 some-pairs v i h = simp (ne-eqb _ _ h)
 

@@ -24,22 +24,22 @@ sumTo x y zero = ofBits binary64 0
 sumTo x y (suc k) = add binary64 (sumTo x y k) (mul binary64 (getD x k nan) (getD y k nan))
 
 -- the three sums of a capture
-abbrev pub sumsTo : List Float → List Float → ℕ → Sums
-sumsTo v i k = record { vi = sumTo v i k; vv = sumTo v v k; ii = sumTo i i k; count = k }
+abbrev pub captureSums : List Float → List Float → ℕ → Sums
+captureSums v i k = record { vi = sumTo v i k; vv = sumTo v v k; ii = sumTo i i k; count = k }
 
 -- ---- the record
 
 -- a sum over n places, divided by n
-unfoldable pub meanOf : Float → ℕ → Float
-meanOf t n = div binary64 t (ofInt binary64 (pos n))
+unfoldable pub mean64 : Float → ℕ → Float
+mean64 t n = div binary64 t (ofInt binary64 (pos n))
 
 -- p, active power: the mean of the products, narrowed to f32
 unfoldable pub activeOf : Sums → Float
-activeOf t = narrow (meanOf (t .vi) (t .count))
+activeOf t = narrow (mean64 (t .vi) (t .count))
 
 -- s, apparent power: the f32 product of the root mean squares of voltage and current. 01, "`compute_power` takes the f64 root and then narrows"
 unfoldable pub apparentOf : Sums → Float
-apparentOf t = mul binary32 (narrowedRoot (meanOf (t .vv) (t .count))) (narrowedRoot (meanOf (t .ii) (t .count)))
+apparentOf t = mul binary32 (narrowedRoot (mean64 (t .vv) (t .count))) (narrowedRoot (mean64 (t .ii) (t .count)))
 
 -- the Rust's `if x > 0.0 { x } else { 0.0 }`: 0 at a NaN too
 unfoldable pub aboveZero : Float → Float
@@ -72,7 +72,7 @@ answered o r = record { outcome = o; power = r }
 
 -- 01, "An empty pair of slices answers the all-zero record"
 unfoldable pub powerOf : List Float → List Float → Power
-powerOf v i = cond (eqb (length v) 0) zeroPower (recordOf (sumsTo v i (length v)))
+powerOf v i = cond (eqb (length v) 0) zeroPower (recordOf (captureSums v i (length v)))
 
 -- how a call with n volts and m amps ends. 01, the table of numbers, and "Where several hold: 3, 1": a slice too long, then lengths that differ
 unfoldable pub outcomeOf : ℕ → ℕ → Outcome

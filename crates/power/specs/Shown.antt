@@ -6,7 +6,7 @@ use lib.Ieee.{Float, binary32, add, sub, mul, div, neg, lt, ofInt, ofBits}
 use Rattle.laws.specs.Quotients.{ratioOrZero}
 use Rattle.number.specs.Number.{narrow, root, narrowedRoot}
 use Rattle.power.specs.declared.PowerAnswer.{PowerAnswer}
-use Rattle.power.specs.Power.{sumTo, meanOf, activeOf, apparentOf, aboveZero, reactiveOf, recordOf, powerOf, outcomeOf, answerOf}
+use Rattle.power.specs.Power.{sumTo, mean64, activeOf, apparentOf, aboveZero, reactiveOf, recordOf, powerOf, outcomeOf, answerOf}
 
 -- by bit patterns: those of 1, 2, plus and minus infinity and a NaN are 3F800000, 40000000, 7F800000, FF800000 and 7FC00000
 abbrev floats : List ℕ → List Float
@@ -68,5 +68,5 @@ rows =
     ∷ []
 
 pub rows-hold : map (λ (r : Row). figures (answerOf (floats (r .volts)) (floats (r .amps)))) rows ≡ map (λ (r : Row). floats (r .powers)) rows
-unfolding answerOf outcomeOf powerOf recordOf sumTo meanOf activeOf narrowedRoot apparentOf ratioOrZero aboveZero reactiveOf narrow root add sub mul div neg lt ofInt ofBits
+unfolding answerOf outcomeOf powerOf recordOf sumTo mean64 activeOf narrowedRoot apparentOf ratioOrZero aboveZero reactiveOf narrow root add sub mul div neg lt ofInt ofBits
 rows-hold = refl

@@ -7,7 +7,7 @@ ghost use lib.ListN.{length};
 ghost use Rattle.laws.specs.Filled.{filled};
 ghost use Rattle.laws.specs.Samples.{allNumbers};
 ghost use Rattle.answers.specs.Numbers.{longest};
-ghost use Rattle.power.specs.Power.{sumsTo};
+ghost use Rattle.power.specs.Power.{captureSums};
 ghost use Rattle.power.specs.Blocks.{productFrom, added};
 use crate::parts::Sums;
 
@@ -85,7 +85,7 @@ pub fn sums_of_numbers(voltage: &[f32], current: &[f32]) -> Sums
     requires { ⌜ length (now voltage) ≤ longest ⌝ }
     requires { ⌜ allNumbers (now voltage) ≡ true ⌝ }
     requires { ⌜ allNumbers (now current) ≡ true ⌝ }
-    ensures { λ r. ⌜ r ≡ sumsTo (now (voltage .entry)) (now (current .entry)) (length (now (voltage .entry))) ⌝ }
+    ensures { λ r. ⌜ r ≡ captureSums (now (voltage .entry)) (now (current .entry)) (length (now (voltage .entry))) ⌝ }
 {
     let mut vi = [0.0f64; 32];
     let mut vv = [0.0f64; 32];

@@ -6,7 +6,7 @@ use lib.ListN.{length, drop, getD}
 use lib.Ieee.{Float, nan, binary64, add}
 use Rattle.answers.specs.Numbers.{longest}
 use Rattle.laws.specs.Walks.{over}
-use Rattle.laws.specs.Harmonics.{harmonicsOf, powerOf, lastOrder}
+use Rattle.laws.specs.Harmonics.{harmonicsOf, harmonicPower, lastOrder}
 use Rattle.laws.specs.Samples.{squareOf}
 
 abbrev pub magnitudeIn : List Float → ℕ → Float
@@ -14,7 +14,7 @@ magnitudeIn s k = getD s k nan
 
 -- the power of all orders from `first` on whose multiples of the bin b lie inside
 unfoldable pub powerIn : List Float → ℕ → ℕ → Float
-powerIn s b first = powerOf (magnitudeIn s) b first (lastOrder (length s) b)
+powerIn s b first = harmonicPower (magnitudeIn s) b first (lastOrder (length s) b)
 
 -- ---- for the loops alone: the contracts of the five calls don't cite what follows
 
@@ -33,8 +33,8 @@ pub record Summed (s : List Float) (b first : ℕ) (t : Float) (h : ℕ) : Type 
   pub sum : t ≡ harmonicsOf (magnitudeIn s) b first (h - first)
 
 -- so many places are added at a time where the bin is 1
-abbrev pub block : ℕ
-block = 64
+abbrev pub squaresAtOnce : ℕ
+squaresAtOnce = 64
 
 -- from t, the squares of so many places from a place on, in index order
 unfoldable pub withSquares : List Float → ℕ → Float → ℕ → Float

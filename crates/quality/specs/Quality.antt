@@ -33,15 +33,15 @@ given Usable refused unusable usable = usable
 
 -- ---- distortion in percent: the root of the harmonics' power, narrowed, in percent of the fundamental; 0 for a fundamental below 1e-12.
 -- `compute_thd_from_spectrum` "sums every multiple of the fundamental", from order 2 on
-unfoldable pub thdOf : List Float → ℕ → Float
-thdOf s b =
+unfoldable pub thdOfSpectrum : List Float → ℕ → Float
+thdOfSpectrum s b =
     cond (lt (getD s b nan) tiny32) zero32 (percentOf (narrowedRoot (powerIn s b 2)) (getD s b nan))
 
 -- "a THD of 0.0 for a fundamental bin of 0 or past the end"
 unfoldable pub answerThd : List Float → ℕ → Measured
 answerThd s b =
     given (judged (length s) b) (record { outcome = TooLong; value = zero32 }) (record { outcome = Done; value = zero32 })
-    (record { outcome = Done; value = thdOf s b })
+    (record { outcome = Done; value = thdOfSpectrum s b })
 
 -- ---- effective bits: 1.76 and 6.02 are the f32 nearest to them
 unfoldable pub enobOf : Float → Float
@@ -53,8 +53,8 @@ enobOf x = div binary32 (sub binary32 x (ofBits binary32 0x3FE147AE)) (ofBits bi
 abbrev pub ownOf : List Float → ℕ → Float
 ownOf s b = squareOf (getD s b nan)
 
-abbrev pub totalOf : List Float → Float
-totalOf s = powerIn s 1 1
+abbrev pub totalPower : List Float → Float
+totalPower s = powerIn s 1 1
 
 -- the Rust's `signal_power / noise_power`, after `if noise_power > 0.0 { noise_power } else { 1e-30 }`: noise that is not above 0 counts as the f64 1e-30
 unfoldable pub overNoise : Float → Float → Float
@@ -62,11 +62,11 @@ overNoise own noise = div binary64 own (cond (lt zero64 noise) noise (ofBits bin
 
 -- 01, item 7, the quotient of `compute_snr`: noise is the total less the fundamental, and then less its harmonics from order 2 on
 unfoldable pub snrOf : List Float → ℕ → Float
-snrOf s b = overNoise (ownOf s b) (sub binary64 (sub binary64 (totalOf s) (ownOf s b)) (powerIn s b 2))
+snrOf s b = overNoise (ownOf s b) (sub binary64 (sub binary64 (totalPower s) (ownOf s b)) (powerIn s b 2))
 
 -- 01, item 7, the quotient of `compute_sinad`: noise and distortion are the total less the fundamental
 unfoldable pub sinadOf : List Float → ℕ → Float
-sinadOf s b = overNoise (ownOf s b) (sub binary64 (totalOf s) (ownOf s b))
+sinadOf s b = overNoise (ownOf s b) (sub binary64 (totalPower s) (ownOf s b))
 
 -- "All three answer by name that a bin of 0 or past the end is unusable"; in a refusal "a quotient the ratio 0"
 unfoldable pub answerQuotient : (List Float → ℕ → Float) → List Float → ℕ → QuotientAnswer

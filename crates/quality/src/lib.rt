@@ -5,8 +5,8 @@ ghost use Prim.Native.Nat.{ℕ, _+_, _≤_};
 ghost use lib.Ieee.{ne};
 ghost use lib.ListN.{length};
 ghost use Rattle.laws.specs.Samples.{numbersIn, squareOf};
-ghost use Rattle.quality.specs.Powers.{powerIn, Inside, Summed, block, withSquares};
-ghost use Rattle.quality.specs.Quality.{judged, thdOf, answerThd, enobOf, overNoise, snrOf, sinadOf, answerQuotient, spurAt, spurOf, sfdrOf, answerSfdr};
+ghost use Rattle.quality.specs.Powers.{powerIn, Inside, Summed, squaresAtOnce, withSquares};
+ghost use Rattle.quality.specs.Quality.{judged, thdOfSpectrum, answerThd, enobOf, overNoise, snrOf, sinadOf, answerQuotient, spurAt, spurOf, sfdrOf, answerSfdr};
 use answers::LONGEST;
 use answers::Measured;
 use answers::Outcome;
@@ -134,9 +134,9 @@ fn square_of_number(x: f32) -> f64
 
 // The sum with the squares of a block of numbers from a place on.
 fn with_block(spectrum: &[f32], from: usize, start: f64) -> f64
-    requires { ⌜ from + block ≤ length (now spectrum) ⌝ }
-    requires { ⌜ numbersIn (now spectrum) from block ≡ true ⌝ }
-    ensures { λ r. ⌜ r ≡ withSquares (now (spectrum .entry)) from start block ⌝ }
+    requires { ⌜ from + squaresAtOnce ≤ length (now spectrum) ⌝ }
+    requires { ⌜ numbersIn (now spectrum) from squaresAtOnce ≡ true ⌝ }
+    ensures { λ r. ⌜ r ≡ withSquares (now (spectrum .entry)) from start squaresAtOnce ⌝ }
 {
     let mut sum = start;
     let mut k = 0usize;
@@ -221,7 +221,7 @@ fn power(spectrum: &[f32], bin: usize, first: usize) -> f64
 // In percent; 0 for a fundamental below 1e-12.
 fn distortion(spectrum: &[f32], bin: usize) -> f32
     requires { ⌜ Inside (length (now spectrum)) bin 2 ⌝ }
-    ensures { λ r. ⌜ r ≡ thdOf (now (spectrum .entry)) bin ⌝ }
+    ensures { λ r. ⌜ r ≡ thdOfSpectrum (now (spectrum .entry)) bin ⌝ }
 {
     let fund = spectrum[bin];
     if fund < 1e-12 {

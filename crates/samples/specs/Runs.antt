@@ -16,5 +16,5 @@ abbrev pub eachFrom : (Float → Float) → ℕ → ℕ → List Float → List 
 eachFrom f from count s = filledFrom (λ (j : ℕ). f (getD s j nan)) from count s
 
 -- so many places are done at once
-abbrev pub block : ℕ
-block = 32
+abbrev pub placesAtOnce : ℕ
+placesAtOnce = 32

@@ -4,7 +4,7 @@ ghost use Prim.Native.Nat.{_+_, _≤_, _<_, min};
 ghost use lib.Ieee.{Float, binary32, add, mul};
 ghost use lib.ListN.{length};
 ghost use Rattle.answers.specs.Written.{written};
-ghost use Rattle.samples.specs.Runs.{block, eachFrom, filledFrom};
+ghost use Rattle.samples.specs.Runs.{placesAtOnce, eachFrom, filledFrom};
 ghost use Rattle.samples.specs.Samples.{offsetBy, scaledBy, shortest, sumAt, addedInto};
 use answers::LONGEST;
 use answers::Outcome;
@@ -101,8 +101,8 @@ fn add_four(a: &[f32], b: &[f32], output: &mut [f32], from: usize)
 
 // The sums of a block from a place on.
 fn add_block(a: &[f32], b: &[f32], output: &mut [f32], from: usize)
-    requires { ⌜ from + block ≤ shortest (now a) (now b) (now output) ⌝ }
-    ensures { λ _. ⌜ now (output .exit) ≡ filledFrom (sumAt (now (a .entry)) (now (b .entry))) from block (now (output .entry)) ⌝ }
+    requires { ⌜ from + placesAtOnce ≤ shortest (now a) (now b) (now output) ⌝ }
+    ensures { λ _. ⌜ now (output .exit) ≡ filledFrom (sumAt (now (a .entry)) (now (b .entry))) from placesAtOnce (now (output .entry)) ⌝ }
 {
     let mut h = 0usize;
     while h < BLOCK {

@@ -19,7 +19,7 @@ use Rattle.generator.specs.Sample.{generated, sampleAt}
 use Rattle.port.specs.declared.Reading.{Reading}
 use Rattle.spectrum.specs.Spectrum.{outcomeOf, ifDone}
 use Rattle.signal.specs.declared.State.{State}
-use Rattle.signal.specs.Calls.{Left, left, answer, judged, made, remade, newOf, phaseSet, dutySet, portOf, resetOf}
+use Rattle.signal.specs.Calls.{Left, left, answer, unlessRefused, made, remade, newOf, phaseSet, dutySet, newPortOf, resetOf}
 
 generated-length : (s : Shape) (xs : List Float) → length (generated s xs .places) ≡ length xs
 unfolding generated
@@ -29,8 +29,8 @@ generated-length s xs = go (tooLong (length xs))
     go true = refl
     go false = filled-length (sampleAt s (length xs)) (length xs) xs
 
-judged-length : (s : State) (xs : List Float) (done : Left) → length (done .places) ≡ length xs → length (judged s xs done .places) ≡ length xs
-unfolding judged ifDone
+judged-length : (s : State) (xs : List Float) (done : Left) → length (done .places) ≡ length xs → length (unlessRefused s xs done .places) ≡ length xs
+unfolding unlessRefused ifDone
 judged-length s xs done e = go (eqb (numberOf (outcomeOf (length xs) false)) 0)
   where
     go : (b : Bool) → length (cond b done (left (answer (outcomeOf (length xs) false) s) xs) .places) ≡ length xs
@@ -50,8 +50,8 @@ phase-length top s phase xs = remade-length top _ _ xs
 pub duty-length : (top : ℕ) (s : State) (duty : Float) (xs : List Float) → length (dutySet top s duty xs .places) ≡ length xs
 duty-length top s duty xs = remade-length top _ _ xs
 
-pub port-length : (top : ℕ) (voltage current : Float) (frequency : Reading) (xs : List Float) → length (portOf top voltage current frequency xs .places) ≡ length xs
-unfolding portOf
+pub port-length : (top : ℕ) (voltage current : Float) (frequency : Reading) (xs : List Float) → length (newPortOf top voltage current frequency xs .places) ≡ length xs
+unfolding newPortOf
 port-length top voltage current frequency xs = judged-length _ xs _ (generated-length _ xs)
 
 pub reset-length : (s : State) (xs : List Float) → length (resetOf s xs .places) ≡ length xs

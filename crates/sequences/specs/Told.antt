@@ -24,5 +24,5 @@ abbrev pub withVoltage : Float → Left → Left
 withVoltage v l = left (swapped (l .answer) (put (l .answer .state .port) at-voltage (number v))) (l .places)
 
 -- 01, item 9, `instantaneous_power`: of the state's port
-abbrev pub powerOf : State → Float
-powerOf s = instantaneousPower (s .port)
+abbrev pub portPower : State → Float
+portPower s = instantaneousPower (s .port)

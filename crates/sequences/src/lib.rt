@@ -2,10 +2,10 @@
 // out. No contract speaks of the struct, so that covered code can call these.
 ghost use mathlib.Core.Path.{_≡_};
 ghost use mathlib.Core.List.{[], _∷_};
-ghost use Rattle.signal.specs.Calls.{left, highest, newOf, portOf};
+ghost use Rattle.signal.specs.Calls.{left, highest, newOf, newPortOf};
 ghost use Rattle.signal.specs.State.{metricsOf};
 ghost use Rattle.signal.specs.Sequence as Sequence;
-ghost use Rattle.sequences.specs.Told.{told, partOf, withVoltage, powerOf};
+ghost use Rattle.sequences.specs.Told.{told, partOf, withVoltage, portPower};
 use generator::Wave;
 use held::Signal;
 use port::Reading;
@@ -68,7 +68,7 @@ pub fn powered(
     next: f32,
     samples: &mut [f32],
 ) -> f32
-    ensures { λ r. ⌜ told r (now (samples .exit)) ≡ partOf powerOf (withVoltage next (portOf highest voltage current frequency (now (samples .entry)))) ⌝ }
+    ensures { λ r. ⌜ told r (now (samples .exit)) ≡ partOf portPower (withVoltage next (newPortOf highest voltage current frequency (now (samples .entry)))) ⌝ }
 {
     let mut signal = Signal::new_power_port(voltage, current, frequency, samples);
     signal.set_voltage(next);

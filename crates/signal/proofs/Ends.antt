@@ -18,18 +18,18 @@ use Rattle.spectrum.specs.Spectrum.{outcomeOf, ifDone}
 use Rattle.spectrum.proofs.Ends.{kept, changed}
 use Rattle.signal.specs.declared.State.{State}
 use Rattle.signal.specs.declared.Answer.{Answer}
-use Rattle.signal.specs.State.{zeroState, fresh, measured, asPort}
-use Rattle.signal.specs.Calls.{Left, left, answer, judged, made, remade, portOf}
+use Rattle.signal.specs.State.{zeroState, fresh, withMeasured, asPort}
+use Rattle.signal.specs.Calls.{Left, left, answer, unlessRefused, made, remade, newPortOf}
 
 module _ (s : State) (xs : List Float) (done : Left) (o : Outcome) (d : ℕ) (ended : o ≡ outcomeOf (length xs) false) (number : d ≡ numberOf o) where
-  judged-by : judged s xs done ≡ ifDone o done (left (answer o s) xs)
-  unfolding judged
+  judged-by : unlessRefused s xs done ≡ ifDone o done (left (answer o s) xs)
+  unfolding unlessRefused
   judged-by = rw ended
 
-  pub refused : (d ≡ 0 → ⊥) → left (answer o s) xs ≡ judged s xs done
+  pub refused : (d ≡ 0 → ⊥) → left (answer o s) xs ≡ unlessRefused s xs done
   refused n = sym (judged-by ∙ kept o done (left (answer o s) xs) d number n)
 
-  pub taken : d ≡ 0 → judged s xs done ≡ done
+  pub taken : d ≡ 0 → unlessRefused s xs done ≡ done
   taken z = judged-by ∙ changed o done (left (answer o s) xs) d number z
 
 -- ---- a port
@@ -42,13 +42,13 @@ ended l = numberOf (l .answer .outcome)
 
 module _ (top : ℕ) (v c : Float) (f : Reading) (xs ys : List Float) (a : Answer) (d : ℕ) (number : d ≡ numberOf (a .outcome)) (h : left a ys ≡ remade top zeroState (fresh DC v zero32) xs) where
   abbrev plain : State
-  plain = measured top (fresh DC v zero32) (generated (fresh DC v zero32 .shape) xs .places)
+  plain = withMeasured top (fresh DC v zero32) (generated (fresh DC v zero32 .shape) xs .places)
 
   abbrev over : Outcome → State → Left
   over o s = ifDone o (left (answer Done s) (generated (fresh DC v zero32 .shape) xs .places)) (left (answer o zeroState) xs)
 
-  pub port-refused : (d ≡ 0 → ⊥) → left a ys ≡ portOf top v c f xs
-  unfolding remade judged made portOf outcomeOf ifDone
+  pub port-refused : (d ≡ 0 → ⊥) → left a ys ≡ newPortOf top v c f xs
+  unfolding remade unlessRefused made newPortOf outcomeOf ifDone
   port-refused n = go (tooLong (length xs)) (onGrid (length xs)) h
     where
       go : (long grid : Bool) → left a ys ≡ over (chain long grid) plain → left a ys ≡ over (chain long grid) (asPort plain v c f)
@@ -56,8 +56,8 @@ module _ (top : ℕ) (v c : Float) (f : Reading) (xs ys : List Float) (a : Answe
       go false false e = e
       go false true e = absurd (n (number ∙ ap ended e))
 
-  pub port-done : (r : State) → d ≡ 0 → r ≡ asPort (a .state) v c f → left (answer (a .outcome) r) ys ≡ portOf top v c f xs
-  unfolding remade judged made portOf outcomeOf ifDone
+  pub port-done : (r : State) → d ≡ 0 → r ≡ asPort (a .state) v c f → left (answer (a .outcome) r) ys ≡ newPortOf top v c f xs
+  unfolding remade unlessRefused made newPortOf outcomeOf ifDone
   port-done r z p = go (tooLong (length xs)) (onGrid (length xs)) h
     where
       go : (long grid : Bool) → left a ys ≡ over (chain long grid) plain → left (answer (a .outcome) r) ys ≡ over (chain long grid) (asPort plain v c f)

@@ -18,10 +18,10 @@ use Rattle.spectrum.specs.Grid.{onGrid}
 use Rattle.spectrum.specs.Bin.{magnitudeOf}
 use Rattle.spectrum.specs.Spectrum.{outcomeOf, ifDone}
 use Rattle.figures.specs.Figures.{figuresOf, answerOf}
-use Rattle.distortion.specs.Thd.{binOf, usable, thdOf, thdAt, thdFrom}
+use Rattle.distortion.specs.Thd.{fundamentalBin, usable, thdOf, thdAt, thdFrom}
 use Rattle.signal.specs.declared.State.{State}
-use Rattle.signal.specs.State.{withPhase, withDuty, measured, silenced}
-use Rattle.signal.specs.Calls.{Left, left, answer, judged, made, remade, resetOf}
+use Rattle.signal.specs.State.{withPhase, withDuty, withMeasured, silenced}
+use Rattle.signal.specs.Calls.{Left, left, answer, unlessRefused, made, remade, resetOf}
 use Rattle.signal.specs.Sequence.{Setting, phase, duty, Later, setting, reset, next, run, shaped, shapes}
 
 -- a length that is not refused
@@ -39,8 +39,8 @@ shapeIn l = l .answer .state .shape
 
 -- ---- one call on a length that is taken
 
-judged-taken : (s : State) (xs : List Float) (done : Left) → Taken xs → judged s xs done ≡ done
-unfolding judged outcomeOf ifDone
+judged-taken : (s : State) (xs : List Float) (done : Left) → Taken xs → unlessRefused s xs done ≡ done
+unfolding unlessRefused outcomeOf ifDone
 judged-taken s xs done h = rw (h .0, h .1)
 
 abbrev withSetting : State → Setting → State
@@ -66,7 +66,7 @@ unfolding made
 made-places top s xs = refl
 
 made-shape : (top : ℕ) (s : State) (xs : List Float) → shapeIn (made top s xs) ≡ s .shape
-unfolding made measured
+unfolding made withMeasured
 made-shape top s xs = refl
 
 set-places : (top : ℕ) (l : Left) (c : Setting) → Taken (l .places) → next top l (setting c) .places ≡ generated (shaped (shapeIn l) c) (l .places) .places
@@ -148,19 +148,19 @@ phase-replaced top l p q h = samples-after top l (setting (phase p) ∷ []) h (p
 -- ---- the figures and THD of those samples
 
 measured-figures : (top : ℕ) (s : State) (xs : List Float) → Taken xs → eqb (length xs) 0 ≡ false
-    → measured top s xs .figures ≡ figuresOf (s .shape .wave) (s .shape .amplitude) (s .shape .frequency) xs
-unfolding measured answerOf
+    → withMeasured top s xs .figures ≡ figuresOf (s .shape .wave) (s .shape .amplitude) (s .shape .frequency) xs
+unfolding withMeasured answerOf
 measured-figures top s xs h k = rw (h .0, k)
 
 made-figures : (top : ℕ) (s : State) (xs : List Float) → Taken xs → eqb (length xs) 0 ≡ false
     → stateOf (made top s xs) .figures ≡ figuresOf (shapeIn (made top s xs) .wave) (shapeIn (made top s xs) .amplitude) (shapeIn (made top s xs) .frequency) (made top s xs .places)
-unfolding made measured
+unfolding made withMeasured
 made-figures top s xs h k =
     let e = generated-length (s .shape) xs h in
     measured-figures top s (generated (s .shape) xs .places) (taken-as xs (generated (s .shape) xs .places) e h) (rw e k)
 
 made-thd : (top : ℕ) (s : State) (xs : List Float) → stateOf (made top s xs) .thd ≡ thdOf top (shapeIn (made top s xs) .frequency) (s .thd) (made top s xs .places)
-unfolding made measured
+unfolding made withMeasured
 made-thd top s xs = refl
 
 with-thd : (s : State) (c : Setting) → withSetting s c .thd ≡ s .thd
@@ -183,16 +183,16 @@ module _ (top : ℕ) (l : Left) (c : Setting) (h : Taken (l .places)) where
       rw (next-set top l c h) (made-thd top (withSetting (stateOf l) c) (l .places) ∙ ap (λ (t : Float). thdOf top (shapeIn m .frequency) t (m .places)) (with-thd (stateOf l) c))
 
 -- 01, `Signal` keeps its earlier THD where the bin is unusable or silent, and else the earlier one has no effect
-pub thd-unusable : (top : ℕ) (frequency earlier : Float) (xs : List Float) → usable frequency (length xs / 2) (binOf frequency (length xs)) ≡ false → thdOf top frequency earlier xs ≡ earlier
+pub thd-unusable : (top : ℕ) (frequency earlier : Float) (xs : List Float) → usable frequency (length xs / 2) (fundamentalBin frequency (length xs)) ≡ false → thdOf top frequency earlier xs ≡ earlier
 unfolding thdOf
 thd-unusable top frequency earlier xs u = rw u
 
-pub thd-silent : (top : ℕ) (frequency earlier : Float) (xs : List Float) → lt tiny32 (magnitudeOf xs (binOf frequency (length xs))) ≡ false
-    → usable frequency (length xs / 2) (binOf frequency (length xs)) ≡ true → thdOf top frequency earlier xs ≡ earlier
+pub thd-silent : (top : ℕ) (frequency earlier : Float) (xs : List Float) → lt tiny32 (magnitudeOf xs (fundamentalBin frequency (length xs))) ≡ false
+    → usable frequency (length xs / 2) (fundamentalBin frequency (length xs)) ≡ true → thdOf top frequency earlier xs ≡ earlier
 unfolding thdOf thdAt thdFrom
 thd-silent top frequency earlier xs m u = rw (u, m)
 
-pub thd-heard : (top : ℕ) (frequency earlier other : Float) (xs : List Float) → lt tiny32 (magnitudeOf xs (binOf frequency (length xs))) ≡ true
-    → usable frequency (length xs / 2) (binOf frequency (length xs)) ≡ true → thdOf top frequency earlier xs ≡ thdOf top frequency other xs
+pub thd-heard : (top : ℕ) (frequency earlier other : Float) (xs : List Float) → lt tiny32 (magnitudeOf xs (fundamentalBin frequency (length xs))) ≡ true
+    → usable frequency (length xs / 2) (fundamentalBin frequency (length xs)) ≡ true → thdOf top frequency earlier xs ≡ thdOf top frequency other xs
 unfolding thdOf thdAt thdFrom
 thd-heard top frequency earlier other xs m u = rw (u, m)

@@ -5,23 +5,23 @@ use mathlib.Core.List.{List, [], _∷_}
 use lib.Count.{trailingZeros}
 use lib.Ieee.{Float, nan, binary32, add, sub, mul, div, rem, neg, lt, le, sum, round, units, odd, size, span, climb, ofInt, ofBits, ofFields, toUnsigned}
 use Rattle.laws.specs.Filled.{filled}
-use Rattle.laws.specs.Harmonics.{harmonicsOf, powerOf, lastUpTo}
+use Rattle.laws.specs.Harmonics.{harmonicsOf, harmonicPower, lastUpTo}
 use Rattle.laws.specs.Samples.{squareOf}
 use Rattle.laws.specs.Walks.{over}
 use Rattle.number.specs.Number.{narrow, root, narrowedRoot, wholeRoot, rootIn, roundAway}
 use Rattle.generator.specs.declared.Wave.the-variants.{PWM, Sawtooth}
-use Rattle.generator.specs.Sample.{samplesPerPeriod, pwmAt, period, shift, tMod, sawtoothAt, sampleAt, generated}
+use Rattle.generator.specs.Sample.{samplesPerPeriod, pwmAt, periodSeconds, shift, tMod, sawtoothAt, sampleAt, generated}
 use Rattle.quarter.specs.Table.{quarterTable}
 use Rattle.quarter.specs.Turn.{fraction, quadrant, sineOf, cosineOf}
 use Rattle.spectrum.specs.Grid.{lengths, onGrid}
 use Rattle.spectrum.specs.Bin.{stepOf, angleOf, turned, sumsTo, sumsOf, sizeOf, magnitudeOf}
 use Rattle.spectrum.specs.Spectrum.{outcomeOf, ifDone}
-use Rattle.timing.specs.Timing.{totalOf, meanOf}
+use Rattle.timing.specs.Timing.{totalOf, narrowedMean}
 use Rattle.figures.specs.Levels.{sumOf, averageOf, dcRmsOf}
 use Rattle.figures.specs.Figures.{figuresOf, answerOf}
-use Rattle.distortion.specs.Thd.{binOf, usable, thdFrom, thdAt, thdOf}
-use Rattle.signal.specs.State.{fresh, withPhase, clamped, withDuty, voltageOf, levelled, measured, silenced}
-use Rattle.signal.specs.Calls.{Left, highest, newOf, judged, made, remade, resetOf}
+use Rattle.distortion.specs.Thd.{fundamentalBin, usable, thdFrom, thdAt, thdOf}
+use Rattle.signal.specs.State.{fresh, withPhase, clamped, withDuty, voltageOf, levelled, withMeasured, silenced}
+use Rattle.signal.specs.Calls.{Left, highest, newOf, unlessRefused, made, remade, resetOf}
 use Rattle.signal.specs.Sequence.{phase, duty, Later, setting, reset, next}
 
 abbrev b : ℕ → Float
@@ -59,7 +59,7 @@ pub sawtooth : each (newOf highest Sawtooth (b 0x40000000) (b 0x3F800000) (b 7 �
     ∷ record { samples = b 0xBF800000 ∷ b 0 ∷ b 0x3F800000 ∷ b 0xC0000000 ∷ []; phase = b 0x42B40000; duty = b 0x3E800000; average = b 0xBF000000; voltage = b 0x3F9CC471; thd = b 0 }
     ∷ record { samples = b 0 ∷ b 0 ∷ b 0 ∷ b 0 ∷ []; phase = b 0x42B40000; duty = b 0x3E800000; average = b 0; voltage = b 0; thd = b 0 }
     ∷ []
-unfolding remade judged outcomeOf ifDone made resetOf generated sampleAt period shift tMod sawtoothAt filled onGrid lengths fresh withPhase clamped withDuty voltageOf levelled measured silenced over totalOf meanOf sumOf averageOf dcRmsOf figuresOf answerOf binOf usable squareOf harmonicsOf powerOf lastUpTo thdFrom thdAt thdOf magnitudeOf sizeOf sumsOf sumsTo turned angleOf stepOf sineOf cosineOf quadrant fraction quarterTable narrowedRoot narrow root wholeRoot rootIn roundAway add sub mul div rem neg lt le sum round units odd size span climb trailingZeros ofInt ofBits ofFields toUnsigned
+unfolding remade unlessRefused outcomeOf ifDone made resetOf generated sampleAt periodSeconds shift tMod sawtoothAt filled onGrid lengths fresh withPhase clamped withDuty voltageOf levelled withMeasured silenced over totalOf narrowedMean sumOf averageOf dcRmsOf figuresOf answerOf fundamentalBin usable squareOf harmonicsOf harmonicPower lastUpTo thdFrom thdAt thdOf magnitudeOf sizeOf sumsOf sumsTo turned angleOf stepOf sineOf cosineOf quadrant fraction quarterTable narrowedRoot narrow root wholeRoot rootIn roundAway add sub mul div rem neg lt le sum round units odd size span climb trailingZeros ofInt ofBits ofFields toUnsigned
 sawtooth = refl
 
 -- PWM of amplitude 2 and frequency 1 over 8 samples: THD follows the duty cycle; a NaN duty cycle is 0, silence keeps THD, and a reset clears it
@@ -69,5 +69,5 @@ pub pulses : each (newOf highest PWM (b 0x40000000) (b 0x3F800000) (b 7 ∷ b 7 
     ∷ record { samples = b 0 ∷ b 0 ∷ b 0 ∷ b 0 ∷ b 0 ∷ b 0 ∷ b 0 ∷ b 0 ∷ []; phase = b 0; duty = b 0; average = b 0; voltage = b 0; thd = b 0x42AE0D83 }
     ∷ record { samples = b 0 ∷ b 0 ∷ b 0 ∷ b 0 ∷ b 0 ∷ b 0 ∷ b 0 ∷ b 0 ∷ []; phase = b 0; duty = b 0; average = b 0; voltage = b 0; thd = b 0 }
     ∷ []
-unfolding remade judged outcomeOf ifDone made resetOf generated sampleAt samplesPerPeriod pwmAt filled onGrid lengths fresh withPhase clamped withDuty voltageOf levelled measured silenced over totalOf meanOf sumOf averageOf dcRmsOf figuresOf answerOf binOf usable squareOf harmonicsOf powerOf lastUpTo thdFrom thdAt thdOf magnitudeOf sizeOf sumsOf sumsTo turned angleOf stepOf sineOf cosineOf quadrant fraction quarterTable narrowedRoot narrow root wholeRoot rootIn roundAway add sub mul div rem neg lt le sum round units odd size span climb trailingZeros ofInt ofBits ofFields toUnsigned
+unfolding remade unlessRefused outcomeOf ifDone made resetOf generated sampleAt samplesPerPeriod pwmAt filled onGrid lengths fresh withPhase clamped withDuty voltageOf levelled withMeasured silenced over totalOf narrowedMean sumOf averageOf dcRmsOf figuresOf answerOf fundamentalBin usable squareOf harmonicsOf harmonicPower lastUpTo thdFrom thdAt thdOf magnitudeOf sizeOf sumsOf sumsTo turned angleOf stepOf sineOf cosineOf quadrant fraction quarterTable narrowedRoot narrow root wholeRoot rootIn roundAway add sub mul div rem neg lt le sum round units odd size span climb trailingZeros ofInt ofBits ofFields toUnsigned
 pulses = refl

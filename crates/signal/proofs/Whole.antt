@@ -17,17 +17,17 @@ use Rattle.figures.specs.declared.TimeAnswer.{TimeAnswer}
 use Rattle.figures.specs.Figures.{answerOf}
 use Rattle.distortion.specs.Thd.{thdOf}
 use Rattle.signal.specs.declared.State.{State}
-use Rattle.signal.specs.State.{voltageOf, levelled, measured, asPort}
+use Rattle.signal.specs.State.{voltageOf, levelled, withMeasured, asPort}
 use Rattle.signal.specs.Calls.{Left, left, answer, made, remade}
 
 pub measured-whole : (top : ℕ) (s : State) (xs : List Float) (a : TimeAnswer) (thd v : Float) (p : Port)
     → a ≡ answerOf (s .shape .wave) (s .shape .amplitude) (s .shape .frequency) (s .figures) xs → thd ≡ thdOf top (s .shape .frequency) (s .thd) xs
     → v ≡ voltageOf (s .shape .wave) (a .figures) → p ≡ levelled (s .port) v (a .figures .«crest_factor») thd
-    → _≡_ {A = State} (record { shape = s .shape; port = p; figures = a .figures; thd = thd }) (measured top s xs)
-unfolding measured
+    → _≡_ {A = State} (record { shape = s .shape; port = p; figures = a .figures; thd = thd }) (withMeasured top s xs)
+unfolding withMeasured
 measured-whole top s xs a thd v p ea et ev ep = rw (ep, ev, et, ea)
 
-pub made-whole : (top : ℕ) (s r : State) (xs ys : List Float) (o : Outcome) → written o ys ≡ generated (s .shape) xs → r ≡ measured top s ys → left (answer Done r) ys ≡ made top s xs
+pub made-whole : (top : ℕ) (s r : State) (xs ys : List Float) (o : Outcome) → written o ys ≡ generated (s .shape) xs → r ≡ withMeasured top s ys → left (answer Done r) ys ≡ made top s xs
 unfolding made
 made-whole top s r xs ys o g e = let p : ys ≡ generated (s .shape) xs .places = ap (λ (w : Written Float). w .places) g in rw (e, p)
 

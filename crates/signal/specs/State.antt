@@ -60,13 +60,13 @@ ofKind PWM a b = b
 ofKind Triangular a b = b
 ofKind Sawtooth a b = b
 
-abbrev pub frequencyOf : Wave → Float → Reading
-frequencyOf wave frequency = ofKind wave Absent (Number frequency)
+abbrev pub frequencyReading : Wave → Float → Reading
+frequencyReading wave frequency = ofKind wave Absent (Number frequency)
 
 unfoldable pub fresh : Wave → Float → Float → State
 fresh wave amplitude frequency = record {
   shape = shapeOf wave amplitude zero32 frequency half;
-  port = put cleared at-frequency (reading (frequencyOf wave frequency));
+  port = put cleared at-frequency (reading (frequencyReading wave frequency));
   figures = zeroFigures;
   thd = zero32;
 }
@@ -97,8 +97,8 @@ levelled p voltage crest thd =
     put (put (put p at-voltage (number voltage)) at-voltage-crest-factor (reading (Number crest))) at-voltage-thd (reading (Number thd))
 
 -- 01, item 10: "with the THD of step 10 of `calculate_metrics`", of orders up to `top`
-unfoldable pub measured : ℕ → State → List Float → State
-measured top s xs =
+unfoldable pub withMeasured : ℕ → State → List Float → State
+withMeasured top s xs =
     let figures = answerOf (s .shape .wave) (s .shape .amplitude) (s .shape .frequency) (s .figures) xs .figures in
     let thd = thdOf top (s .shape .frequency) (s .thd) xs in
     record { shape = s .shape; port = levelled (s .port) (voltageOf (s .shape .wave) figures) (figures .«crest_factor») thd; figures = figures; thd = thd }

@@ -3,7 +3,7 @@ mod parts;
 
 ghost use mathlib.Core.Path.{_≡_};
 ghost use Rattle.signal.specs.State.{metricsOf};
-ghost use Rattle.signal.specs.Calls.{left, highest, newOf, portOf, phaseSet, dutySet, resetOf};
+ghost use Rattle.signal.specs.Calls.{left, highest, newOf, newPortOf, phaseSet, dutySet, resetOf};
 use answers::Outcome;
 use figures::TimeFigures;
 use generator::Shape;
@@ -44,7 +44,7 @@ pub fn new(wave: Wave, amplitude: f32, frequency: f32, samples: &mut [f32]) -> A
 
 // A signal as a port of this voltage and current; the frequency is a reading alone.
 pub fn new_power_port(voltage: f32, current: f32, frequency: Reading, samples: &mut [f32]) -> Answer
-    ensures { λ r. ⌜ left r (now (samples .exit)) ≡ portOf highest voltage current frequency (now (samples .entry)) ⌝ }
+    ensures { λ r. ⌜ left r (now (samples .exit)) ≡ newPortOf highest voltage current frequency (now (samples .entry)) ⌝ }
 {
     let made = new(Wave::DC, voltage, 0.0, samples);
     let outcome = made.outcome;

@@ -66,7 +66,7 @@ pub fn zero_state() -> State
 
 // The frequency as a reading: absent for DC.
 fn frequency_of(wave: Wave, frequency: f32) -> Reading
-    ensures { λ r. ⌜ r ≡ S.frequencyOf wave frequency ⌝ }
+    ensures { λ r. ⌜ r ≡ S.frequencyReading wave frequency ⌝ }
 {
     match wave {
         Wave::DC => Reading::Absent,
@@ -155,7 +155,7 @@ fn levelled(port: Port, voltage: f32, crest: f32, thd: f32) -> Port
 // The state with what is measured of the samples.
 fn measure(state: State, samples: &[f32]) -> State
     requires { ⌜ onGrid (length (now samples)) ≡ true ⌝ }
-    ensures { λ r. ⌜ r ≡ S.measured highest state (now (samples .entry)) ⌝ }
+    ensures { λ r. ⌜ r ≡ S.withMeasured highest state (now (samples .entry)) ⌝ }
 {
     let shape = state.shape;
     let wave = shape.wave;

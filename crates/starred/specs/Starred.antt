@@ -17,8 +17,8 @@ use Rattle.laws.specs.Samples.{higher, lower}
 use Rattle.laws.specs.Walks.{over, pairs}
 use Rattle.number.specs.Number.{narrow, root, wholeRoot, rootIn, abs, narrowedRoot}
 use Rattle.power.specs.declared.PowerAnswer.{PowerAnswer}
-use Rattle.power.specs.Power.{sumTo, meanOf, activeOf, apparentOf, aboveZero, reactiveOf, recordOf, zeroPower, answered, powerOf, outcomeOf as powerOutcome, answerOf}
-use Rattle.timing.specs.Timing.{totalOf, meanOf as timingMean, risesAt, firstOf, crossingAt, crossingsOf, frequencyFrom, frequencyAbout, frequencyAnswer, slewAt, steepestOf, slewOf, slewAnswer}
+use Rattle.power.specs.Power.{sumTo, mean64, activeOf, apparentOf, aboveZero, reactiveOf, recordOf, zeroPower, answered, powerOf, outcomeOf as powerOutcome, answerOf}
+use Rattle.timing.specs.Timing.{totalOf, narrowedMean, risesAt, firstOf, crossingAt, crossingsOf, frequencyFrom, frequencyAbout, frequencyAnswer, slewAt, steepestOf, slewOf, slewAnswer}
 use Rattle.figures.specs.Levels.{maxOf, minOf}
 use Rattle.figures.specs.Edges.{riseBegins, riseCounts, fallBegins, fallCounts, edgeAt, edgesOf}
 use Rattle.figures.specs.Figures.{edgesIn}
@@ -132,5 +132,5 @@ starred =
 -- ---- the statement
 
 pub starred-hold : map (λ (r : Row). answerTo (r .call)) starred ≡ map (λ (r : Row). r .answer) starred
-unfolding answerOf powerOutcome powerOf recordOf sumTo meanOf activeOf narrowedRoot apparentOf ratioOrZero aboveZero reactiveOf over pairs totalOf timingMean higher lower risesAt firstOf crossingAt crossingsOf frequencyFrom frequencyAbout slewAt steepestOf slewOf frequencyAnswer slewAnswer maxOf minOf riseBegins riseCounts fallBegins fallCounts edgeAt edgesOf spectrumOf outcomeOf onGrid lengths ifDone filled binOf halved magnitudeOf sizeOf sumsOf sumsTo turned angleOf stepOf sineOf cosineOf quadrant fraction quarterTable onto within isDigit digitOf codeOf pairAt wordAt allDigits sequenceOf countOf rightForm sumOf rightSum lineOf runCodes codesBy lineCodes addLine cut codesOf follows after weigh judge verdictOf settle readCapture narrow root wholeRoot rootIn abs add sub mul div neg sum round units odd size span climb trailingZeros lt le ofInt ofBits ofFields
+unfolding answerOf powerOutcome powerOf recordOf sumTo mean64 activeOf narrowedRoot apparentOf ratioOrZero aboveZero reactiveOf over pairs totalOf narrowedMean higher lower risesAt firstOf crossingAt crossingsOf frequencyFrom frequencyAbout slewAt steepestOf slewOf frequencyAnswer slewAnswer maxOf minOf riseBegins riseCounts fallBegins fallCounts edgeAt edgesOf spectrumOf outcomeOf onGrid lengths ifDone filled binOf halved magnitudeOf sizeOf sumsOf sumsTo turned angleOf stepOf sineOf cosineOf quadrant fraction quarterTable onto within isDigit digitOf codeOf pairAt wordAt allDigits sequenceOf countOf rightForm sumOf rightSum lineOf runCodes codesBy lineCodes addLine cut codesOf follows after weigh judge verdictOf settle readCapture narrow root wholeRoot rootIn abs add sub mul div neg sum round units odd size span climb trailingZeros lt le ofInt ofBits ofFields
 starred-hold = refl

@@ -1,7 +1,7 @@
 // Signal: its state crosses as a flat record, a wave in it as its number. The caller's samples are lent beside it.
 ghost use mathlib.Core.Path.{_≡_};
 ghost use Rattle.generator.specs.Wave.{waveOf};
-ghost use Rattle.signal.specs.Calls.{highest, newOf, portOf, phaseSet, dutySet, resetOf};
+ghost use Rattle.signal.specs.Calls.{highest, newOf, newPortOf, phaseSet, dutySet, resetOf};
 ghost use Rattle.crossing.specs.PortCrossing.{readingIn};
 ghost use Rattle.crossing.specs.SignalCrossing.{stateIn, sent, crossedSignal};
 use crossing::readings;
@@ -31,7 +31,7 @@ pub extern "C" fn tj_signal_new_power_port(
     frequency: TjReading,
     samples: &mut [f32],
 ) -> CodedSignal
-    ensures { λ r. ⌜ sent r (now (samples .exit)) ≡ crossedSignal (portOf highest voltage current (readingIn frequency) (now (samples .entry))) ⌝ }
+    ensures { λ r. ⌜ sent r (now (samples .exit)) ≡ crossedSignal (newPortOf highest voltage current (readingIn frequency) (now (samples .entry))) ⌝ }
 {
     let reading = readings::reading_in(frequency);
     coded(signal::new_power_port(voltage, current, reading, samples))

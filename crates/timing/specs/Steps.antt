@@ -5,11 +5,11 @@ use mathlib.Core.List.{List}
 use Prim.Native.Nat.{ℕ, _-_, _≤_, _<_}
 use lib.ListN.{length, getD}
 use lib.Ieee.{Float, nan, lt}
-use Rattle.timing.specs.Timing.{stepOf}
+use Rattle.timing.specs.Timing.{slewStep}
 
 -- the step to the sample at i
 abbrev pub stepAt : List Float → ℕ → Float
-stepAt xs i = stepOf (getD xs (i - 1) nan) (getD xs i nan)
+stepAt xs i = slewStep (getD xs (i - 1) nan) (getD xs i nan)
 
 -- r is the first place from `from` on whose step is above w, or the end
 pub record NextAbove (xs : List Float) (w : Float) (from r : ℕ) : Type 0 where

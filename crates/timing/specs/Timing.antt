@@ -20,8 +20,8 @@ unfoldable pub totalOf : List Float → Float
 totalOf xs = over (add binary64) zero64 xs (length xs)
 
 -- the sum over n samples as a mean: an f64 quotient, narrowed once
-unfoldable pub meanOf : Float → ℕ → Float
-meanOf t n = narrow (div binary64 t (count64 n))
+unfoldable pub narrowedMean : Float → ℕ → Float
+narrowedMean t n = narrow (div binary64 t (count64 n))
 
 -- ---- frequency
 
@@ -54,17 +54,17 @@ frequencyAbout mean xs rate = frequencyFrom (crossingsOf mean xs) rate
 
 -- the crossings are those of the samples' own mean
 abbrev pub frequencyOf : List Float → Float → Float
-frequencyOf xs rate = frequencyAbout (meanOf (totalOf xs) (length xs)) xs rate
+frequencyOf xs rate = frequencyAbout (narrowedMean (totalOf xs) (length xs)) xs rate
 
 -- ---- slew rate
 
 -- the size of a step from one sample to the next, the Rust's `fabsf(samples[i] - samples[i - 1])`; that over the time dt between them, `dv / dt`;
 -- and the larger of m and that, `if sr > max_sr`
-abbrev pub stepOf : Float → Float → Float
-stepOf prev curr = abs (sub binary32 curr prev)
+abbrev pub slewStep : Float → Float → Float
+slewStep prev curr = abs (sub binary32 curr prev)
 
 abbrev pub slopeOf : Float → Float → Float → Float
-slopeOf dt prev curr = div binary32 (stepOf prev curr) dt
+slopeOf dt prev curr = div binary32 (slewStep prev curr) dt
 
 unfoldable pub slewAt : Float → Float → ℕ → Float → Float → Float
 slewAt dt m i prev curr = higher m (slopeOf dt prev curr)

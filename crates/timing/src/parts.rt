@@ -5,7 +5,7 @@ ghost use Prim.Native.Nat.{_+_, _-_, _≤_, _<_};
 ghost use lib.ListN.{length};
 ghost use Rattle.answers.specs.Numbers.{longest};
 ghost use Rattle.laws.specs.Samples.{unsigned};
-ghost use Rattle.timing.specs.Timing.{totalOf, meanOf, risesAt, crossingsOf, frequencyFrom, frequencyAbout, stepOf, steepestOf, slewOf};
+ghost use Rattle.timing.specs.Timing.{totalOf, narrowedMean, risesAt, crossingsOf, frequencyFrom, frequencyAbout, slewStep, steepestOf, slewOf};
 ghost use Rattle.timing.specs.Steps.{NextAbove};
 use number::parts::counted;
 use number::parts::tallied;
@@ -26,7 +26,7 @@ pub fn total(samples: &[f32]) -> f64
 // A sum over n samples as a mean, narrowed once.
 pub fn mean(total: f64, n: usize) -> f32
     requires { ⌜ n ≤ longest ⌝ }
-    ensures { λ r. ⌜ r ≡ meanOf total n ⌝ }
+    ensures { λ r. ⌜ r ≡ narrowedMean total n ⌝ }
 {
     number::narrow(total / n as f64)
 }
@@ -118,7 +118,7 @@ pub fn frequency(samples: &[f32], mean: f32, rate: f32) -> f32
 
 // The size of the step from one sample to the next.
 fn step(prev: f32, curr: f32) -> f32
-    ensures { λ r. ⌜ r ≡ stepOf prev curr ⌝ }
+    ensures { λ r. ⌜ r ≡ slewStep prev curr ⌝ }
 {
     number::abs32(curr - prev)
 }

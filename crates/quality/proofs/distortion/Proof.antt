@@ -1,6 +1,6 @@
 -- `quality::distortion` meets its contract. Assumes nothing.
 use borrow.Author.Needs.{needs}
-use Rattle.quality.specs.Quality.{thdOf}
+use Rattle.quality.specs.Quality.{thdOfSpectrum}
 use Rattle.quality.proofs.distortion.Statement.{statement}
 use Rattle.quality.proofs.distortion.Tie as tie
 
@@ -11,7 +11,7 @@ shared-slice-read-fund : tie.Need-shared-slice-read-fund
 shared-slice-read-fund c = search needs
 
 returns : tie.Need-returns
-unfolding thdOf
+unfolding thdOfSpectrum
 returns c = rw (c .if1 .taken)
 
 power-requires : tie.Need-power-requires
@@ -21,7 +21,7 @@ sqrt64-narrowed-requires : tie.Need-sqrt64-narrowed-requires
 sqrt64-narrowed-requires c κs = search needs
 
 returns-2 : tie.Need-returns-2
-unfolding thdOf
+unfolding thdOfSpectrum
 returns-2 c = rw (c .before .before .if1 .left, c .sqrt64-narrowed .ensures, c .before .power .ensures)
 
 pub distortion-spec : {M : Type 1} → statement M

@@ -4,7 +4,7 @@ use Prim.Native.Nat.{_-_}
 use native.Mathlib.Omega.{arith}
 use lib.ListN.{length}
 use borrow.Author.Tests.{not-false}
-use Rattle.quality.specs.Powers.{Summed, block}
+use Rattle.quality.specs.Powers.{Summed, squaresAtOnce}
 use Rattle.quality.proofs.Orders.{order-le, summed-none, summed-places}
 use Rattle.quality.proofs.power_of_blocks.Statement.{statement}
 use Rattle.quality.proofs.power_of_blocks.Tie as tie
@@ -45,7 +45,7 @@ loop-less c = omega arith
 loop-again : tie.Need-loop-again Inv-loop μ-loop
 loop-again c =
     let l = c .before .before .before .before .loop in
-    rw (c .with-block .ensures) (summed-places _ _ _ (l .h) block (omega arith) (l .inv) (omega arith))
+    rw (c .with-block .ensures) (summed-places _ _ _ (l .h) squaresAtOnce (omega arith) (l .inv) (omega arith))
 
 returns-2 : tie.Need-returns-2 Inv-loop μ-loop
 returns-2 c = c .before .loop .inv

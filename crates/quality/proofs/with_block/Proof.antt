@@ -8,7 +8,7 @@ use lib.Ieee.{Float, binary64, add}
 use Rattle.laws.specs.Samples.{squareOf}
 use Rattle.laws.specs.Walks.{over}
 use Rattle.laws.proofs.Numbers.{numbers-in-at, number-same}
-use Rattle.quality.specs.Powers.{magnitudeIn, block, withSquares}
+use Rattle.quality.specs.Powers.{magnitudeIn, squaresAtOnce, withSquares}
 use Rattle.quality.proofs.Orders.{squares-next}
 use Rattle.quality.proofs.with_block.Statement.{statement}
 use Rattle.quality.proofs.with_block.Tie as tie
@@ -20,10 +20,10 @@ one-more s from k t u v e q = ap₂ (add binary64) e q ∙ (sym (squares-next s 
     after i = omega arith
 
 abbrev Inv-loop : tie.InvT-loop
-Inv-loop spectrum from start sum₀ k₀ sum k = (k ≤ block) × (sum ≡ withSquares spectrum from start k)
+Inv-loop spectrum from start sum₀ k₀ sum k = (k ≤ squaresAtOnce) × (sum ≡ withSquares spectrum from start k)
 
 abbrev μ-loop : tie.MeasureT-loop
-μ-loop spectrum from start sum₀ k₀ sum k = block - k
+μ-loop spectrum from start sum₀ k₀ sum k = squaresAtOnce - k
 
 loop-holds : tie.Need-loop-holds Inv-loop μ-loop
 unfolding withSquares over
@@ -39,7 +39,7 @@ shared-slice-read-square-of-number : tie.Need-shared-slice-read-square-of-number
 shared-slice-read-square-of-number c = search needs
 
 square-of-number-requires : tie.Need-square-of-number-requires Inv-loop μ-loop
-square-of-number-requires c κs = number-same _ (numbers-in-at _ _ block (c .before .before .loop .k) (c .before .before .before .before .pre .1) (omega arith))
+square-of-number-requires c κs = number-same _ (numbers-in-at _ _ squaresAtOnce (c .before .before .loop .k) (c .before .before .before .before .pre .1) (omega arith))
 
 add-k : tie.Need-add-k Inv-loop μ-loop
 add-k c = search needs
@@ -55,7 +55,7 @@ loop-again c =
 returns : tie.Need-returns Inv-loop μ-loop
 returns c =
     let l = c .before .loop in
-    let e : l .k ≡ block = omega arith in
+    let e : l .k ≡ squaresAtOnce = omega arith in
     rw e at (l .inv .1)
 
 pub with-block-spec : {M : Type 1} → statement M

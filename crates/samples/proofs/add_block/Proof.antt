@@ -4,17 +4,17 @@ use Prim.Native.Nat.{_-_, _%_, _≤_}
 use native.Mathlib.Omega.{arith}
 use denote.Ref.{now}
 use lib.ListN.{length}
-use Rattle.samples.specs.Runs.{block, filledFrom}
+use Rattle.samples.specs.Runs.{placesAtOnce, filledFrom}
 use Rattle.samples.specs.Samples.{sumAt}
 use Rattle.samples.proofs.Runs.{from-none, from-length, from-more}
 use Rattle.samples.proofs.add_block.Statement.{statement}
 use Rattle.samples.proofs.add_block.Tie as tie
 
 abbrev Inv-loop : tie.InvT-loop
-Inv-loop a b output₀ from h₀ output h = (h ≤ block) × (h % 4 ≡ 0) × (output ≡ filledFrom (sumAt a b) from h output₀)
+Inv-loop a b output₀ from h₀ output h = (h ≤ placesAtOnce) × (h % 4 ≡ 0) × (output ≡ filledFrom (sumAt a b) from h output₀)
 
 abbrev μ-loop : tie.MeasureT-loop
-μ-loop a b output₀ from h₀ output h = block - h
+μ-loop a b output₀ from h₀ output h = placesAtOnce - h
 
 loop-holds : tie.Need-loop-holds Inv-loop μ-loop
 loop-holds c = (omega arith, refl, from-none _ _ _)
@@ -43,7 +43,7 @@ same-length c = ap length (c .before .loop .inv .2) ∙ from-length _ _ _ _
 returns : tie.Need-returns Inv-loop μ-loop
 returns c =
     let l = c .before .loop in
-    let e : l .h ≡ block = omega arith in
+    let e : l .h ≡ placesAtOnce = omega arith in
     rw e at (l .inv .2)
 
 pub add-block-spec : {M : Type 1} → statement M

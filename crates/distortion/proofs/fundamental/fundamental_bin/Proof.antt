@@ -3,7 +3,7 @@ use lib.Ieee.{inFloat}
 use lib.Dec.{le→leb}
 use native.Mathlib.Omega.{arith}
 use borrow.Author.Needs.{needs}
-use Rattle.distortion.specs.Thd.{binOf}
+use Rattle.distortion.specs.Thd.{fundamentalBin}
 use Rattle.distortion.proofs.fundamental.fundamental_bin.Statement.{statement}
 use Rattle.distortion.proofs.fundamental.fundamental_bin.Tie as tie
 
@@ -18,7 +18,7 @@ saturated-requires : tie.Need-saturated-requires
 saturated-requires c κs = search needs
 
 returns : tie.Need-returns
-unfolding binOf
+unfolding fundamentalBin
 returns c = rw (c .saturated .ensures, c .before .round32 .ensures)
 
 pub fundamental-bin-spec : {M : Type 1} → statement M

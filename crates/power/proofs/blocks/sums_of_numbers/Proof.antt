@@ -7,14 +7,14 @@ use borrow.Author.Needs.{needs}
 use denote.Ref.{now}
 use lib.ListN.{length}
 use Rattle.power.specs.declared.parts.Sums.{Sums}
-use Rattle.power.specs.Power.{sumTo, sumsTo}
+use Rattle.power.specs.Power.{sumTo, captureSums}
 use Rattle.power.specs.Blocks.{productFrom}
 use Rattle.power.proofs.BlockSums.{block-sums, kept}
 use Rattle.power.proofs.blocks.sums_of_numbers.Statement.{statement}
 use Rattle.power.proofs.blocks.sums_of_numbers.Tie as tie
 
 abbrev Inv-loop : tie.InvT-loop
-Inv-loop voltage current vi₀ vv₀ ii₀ t₀ k₀ vi vv ii t k = (k ≤ length voltage) × (t ≡ sumsTo voltage current k) × (length vi ≡ 32) × (length vv ≡ 32) × (length ii ≡ 32)
+Inv-loop voltage current vi₀ vv₀ ii₀ t₀ k₀ vi vv ii t k = (k ≤ length voltage) × (t ≡ captureSums voltage current k) × (length vi ≡ 32) × (length vv ≡ 32) × (length ii ≡ 32)
 
 abbrev μ-loop : tie.MeasureT-loop
 μ-loop voltage current vi₀ vv₀ ii₀ t₀ k₀ vi vv ii t k = length voltage - k
@@ -75,7 +75,7 @@ returns c =
     let start = c .before .before .before .before in
     let l = c .before .loop in
     let e : l .k ≡ length (now (start .args .voltage)) = omega arith in
-    l .inv .1 ∙ ap (sumsTo (now (start .args .voltage)) (now (start .args .current))) e
+    l .inv .1 ∙ ap (captureSums (now (start .args .voltage)) (now (start .args .current))) e
 
 pub sums-of-numbers-spec : {M : Type 1} → statement M
 sums-of-numbers-spec =

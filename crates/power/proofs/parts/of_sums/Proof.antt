@@ -3,7 +3,7 @@ use native.Mathlib.Omega.{arith}
 use Prim.Native.Nat.{_^_}
 use lib.Dec.{le→leb}
 use lib.Ieee.{inFloat}
-use Rattle.power.specs.Power.{recordOf, activeOf, apparentOf, meanOf}
+use Rattle.power.specs.Power.{recordOf, activeOf, apparentOf, mean64}
 use borrow.Author.Needs.{needs}
 use Rattle.power.proofs.parts.of_sums.Statement.{statement}
 use Rattle.power.proofs.parts.of_sums.Tie as tie
@@ -28,7 +28,7 @@ factor-requires : tie.Need-factor-requires
 factor-requires c κs = search needs
 
 returns : tie.Need-returns
-unfolding recordOf activeOf apparentOf meanOf
+unfolding recordOf activeOf apparentOf mean64
 returns c = rw (c .factor .ensures, c .before .reactive .ensures, c .before .before .sqrt64-narrowed2 .ensures, c .before .before .before .before .sqrt64-narrowed .ensures, c .before .before .before .before .before .before .narrow .ensures)
 
 pub of-sums-spec : {M : Type 1} → statement M

@@ -3,7 +3,7 @@ use Prim.Native.Nat.{_^_}
 use native.Mathlib.Omega.{arith}
 use lib.Dec.{le→leb}
 use lib.Ieee.{inFloat}
-use Rattle.timing.specs.Timing.{meanOf}
+use Rattle.timing.specs.Timing.{narrowedMean}
 use borrow.Author.Needs.{needs}
 use Rattle.timing.proofs.parts.mean.Statement.{statement}
 use Rattle.timing.proofs.parts.mean.Tie as tie
@@ -16,7 +16,7 @@ narrow-requires : tie.Need-narrow-requires
 narrow-requires c κs = search needs
 
 returns : tie.Need-returns
-unfolding meanOf
+unfolding narrowedMean
 returns c = rw (c .narrow .ensures)
 
 pub mean-spec : {M : Type 1} → statement M
