@@ -16,6 +16,17 @@ numberOf WrongForm = 5
 numberOf WrongSum = 6
 numberOf WrongSequence = 7
 
+-- 01, row 0, "done", and "Nothing but 0 writes to what was lent": what a call gives or leaves where it is done, and what where it is refused
+unfoldable pub ifDone : {A : Type 0} → Outcome → A → A → A
+ifDone Done done refused = done
+ifDone LengthsDiffer done refused = refused
+ifDone OutputShort done refused = refused
+ifDone TooLong done refused = refused
+ifDone OffGrid done refused = refused
+ifDone WrongForm done refused = refused
+ifDone WrongSum done refused = refused
+ifDone WrongSequence done refused = refused
+
 -- 01, row 3: "more than 65,536 places"
 abbrev pub longest : ℕ
 longest = 65536

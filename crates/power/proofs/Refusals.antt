@@ -3,7 +3,7 @@
 use Prim.Native.Nat.{ℕ, _≤_, _<_}
 use mathlib.Core.Path.{_≡_, refl, sym, ap, _∙_}
 use mathlib.Core.Logic.{_⊎_, inl, inr}
-use mathlib.Core.Bool.{Bool, true, false, not, cond}
+use mathlib.Core.Bool.{Bool, true, false, not}
 use mathlib.Core.List.{List}
 use native.Mathlib.Omega.{arith}
 use borrow.Author.Tests.{lt-ltb, le-ltb, eq-eqb, ne-eqb, ltb-false, eqb-true}
@@ -12,7 +12,8 @@ use lib.ListN.{length}
 use lib.Ieee.{Float}
 use Rattle.answers.specs.declared.Outcome.{Outcome}
 use Rattle.answers.specs.declared.Outcome.the-variants.{Done, LengthsDiffer, TooLong}
-use Rattle.answers.specs.Numbers.{numberOf, longest, tooLong, refuse}
+use Rattle.answers.specs.Numbers.{numberOf, ifDone, longest, tooLong, refuse}
+use Rattle.answers.proofs.Ended.{if-refused, if-done}
 use Rattle.power.specs.declared.Power.{Power}
 use Rattle.power.specs.Power.{captureSums, recordOf, zeroPower, answered, powerOf, outcomeOf, answerOf}
 
@@ -59,17 +60,17 @@ some-pairs v i h = simp (ne-eqb _ _ h)
 
 -- ---- what a call answers
 module _ (v i : List Float) where
-  answer-of : (o : Outcome) → outcomeOf (length v) (length i) ≡ o → answerOf v i ≡ answered o (cond (eqb (numberOf o) 0) (powerOf v i) zeroPower)
+  answer-of : (o : Outcome) → outcomeOf (length v) (length i) ≡ o → answerOf v i ≡ answered o (ifDone o (powerOf v i) zeroPower)
   unfolding answerOf
-  answer-of o e = ap (λ (o : Outcome). answered o (cond (eqb (numberOf o) 0) (powerOf v i) zeroPower)) e
+  answer-of o e = ap (λ (o : Outcome). answered o (ifDone o (powerOf v i) zeroPower)) e
 
   -- from the number of the outcome, as the code asks it
   pub refused : (o : Outcome) (d : ℕ) → o ≡ outcomeOf (length v) (length i) → d ≡ numberOf o → (d ≡ 0 → ⊥) → answered o zeroPower ≡ answerOf v i
-  refused o d e f n = sym (answer-of o (sym e) ∙ ap (λ (b : Bool). answered o (cond b (powerOf v i) zeroPower)) (ne-eqb (numberOf o) 0 (λ z. n (f ∙ z))))
+  refused o d e f n = sym (answer-of o (sym e) ∙ ap (answered o) (if-refused o (powerOf v i) zeroPower d f n))
 
   pub measured : (o : Outcome) (d : ℕ) (w : Power) → o ≡ outcomeOf (length v) (length i) → d ≡ numberOf o → d ≡ 0 → w ≡ powerOf v i → answered o w ≡ answerOf v i
   measured o d w e f z h =
-      ap (answered o) h ∙ sym (answer-of o (sym e) ∙ ap (λ (b : Bool). answered o (cond b (powerOf v i) zeroPower)) (eq-eqb (numberOf o) 0 (sym f ∙ z)))
+      ap (answered o) h ∙ sym (answer-of o (sym e) ∙ ap (answered o) (if-done o (powerOf v i) zeroPower d f z))
 
 pub record Refusals (v i : List Float) : Type 0 where
   pub too-long : (longest < length v) ⊎ (longest < length i) → answerOf v i ≡ answered TooLong zeroPower
@@ -77,6 +78,7 @@ pub record Refusals (v i : List Float) : Type 0 where
   pub done : length v ≤ longest → length i ≤ longest → length v ≡ length i → answerOf v i ≡ answered Done (powerOf v i)
 
 pub refusals : (v i : List Float) → Refusals v i
+unfolding ifDone
 refusals v i =
     record {
       too-long = λ c. answer-of v i TooLong (elim c [ inl h ↦ long-volts _ _ h | inr h ↦ long-amps _ _ h ]);

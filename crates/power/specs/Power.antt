@@ -10,7 +10,7 @@ use lib.Ieee.{Float, nan, binary32, binary64, add, sub, mul, div, lt, ofInt, ofB
 use Rattle.number.specs.Number.{narrow, narrowedRoot}
 use Rattle.answers.specs.declared.Outcome.{Outcome}
 use Rattle.answers.specs.declared.Outcome.the-variants.{Done, LengthsDiffer, TooLong}
-use Rattle.answers.specs.Numbers.{numberOf, tooLong, refuse}
+use Rattle.answers.specs.Numbers.{ifDone, tooLong, refuse}
 use Rattle.laws.specs.Quotients.{ratioOrZero}
 use Rattle.power.specs.declared.Power.{Power}
 use Rattle.power.specs.declared.PowerAnswer.{PowerAnswer}
@@ -82,4 +82,4 @@ outcomeOf n m = refuse (tooLong n) TooLong (refuse (tooLong m) TooLong (refuse (
 unfoldable pub answerOf : List Float → List Float → PowerAnswer
 answerOf v i =
     let o = outcomeOf (length v) (length i) in
-    answered o (cond (eqb (numberOf o) 0) (powerOf v i) zeroPower)
+    answered o (ifDone o (powerOf v i) zeroPower)

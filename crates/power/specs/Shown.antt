@@ -3,6 +3,7 @@ use Prim.Native.Nat.{ℕ}
 use mathlib.Core.Path.{_≡_, refl}
 use mathlib.Core.List.{List, [], _∷_, map}
 use lib.Ieee.{Float, binary32, add, sub, mul, div, neg, lt, ofInt, ofBits}
+use Rattle.answers.specs.Numbers.{ifDone}
 use Rattle.laws.specs.Quotients.{ratioOrZero}
 use Rattle.number.specs.Number.{narrow, root, narrowedRoot}
 use Rattle.power.specs.declared.PowerAnswer.{PowerAnswer}
@@ -68,5 +69,5 @@ rows =
     ∷ []
 
 pub rows-hold : map (λ (r : Row). figures (answerOf (floats (r .volts)) (floats (r .amps)))) rows ≡ map (λ (r : Row). floats (r .powers)) rows
-unfolding answerOf outcomeOf powerOf recordOf sumTo mean64 activeOf narrowedRoot apparentOf ratioOrZero aboveZero reactiveOf narrow root add sub mul div neg lt ofInt ofBits
+unfolding ifDone answerOf outcomeOf powerOf recordOf sumTo mean64 activeOf narrowedRoot apparentOf ratioOrZero aboveZero reactiveOf narrow root add sub mul div neg lt ofInt ofBits
 rows-hold = refl

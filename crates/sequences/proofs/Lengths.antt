@@ -8,6 +8,7 @@ use lib.Dec.{eqb}
 use lib.Ieee.{Float}
 use lib.ListN.{length}
 use Rattle.answers.specs.Numbers.{numberOf, tooLong}
+use Rattle.answers.proofs.Ended.{done-is-zero}
 use Rattle.answers.specs.Written.{written}
 use Rattle.answers.specs.declared.Outcome.the-variants.{Done, TooLong}
 use Rattle.laws.specs.Literals.{zero32}
@@ -17,7 +18,7 @@ use Rattle.generator.specs.declared.Wave.{Wave}
 use Rattle.generator.specs.declared.Shape.{Shape}
 use Rattle.generator.specs.Sample.{generated, sampleAt}
 use Rattle.port.specs.declared.Reading.{Reading}
-use Rattle.spectrum.specs.Spectrum.{outcomeOf, ifDone}
+use Rattle.spectrum.specs.Spectrum.{outcomeOf}
 use Rattle.signal.specs.declared.State.{State}
 use Rattle.signal.specs.Calls.{Left, left, answer, unlessRefused, made, remade, newOf, phaseSet, dutySet, newPortOf, resetOf}
 
@@ -30,8 +31,8 @@ generated-length s xs = go (tooLong (length xs))
     go false = filled-length (sampleAt s (length xs)) (length xs) xs
 
 judged-length : (s : State) (xs : List Float) (done : Left) → length (done .places) ≡ length xs → length (unlessRefused s xs done .places) ≡ length xs
-unfolding unlessRefused ifDone
-judged-length s xs done e = go (eqb (numberOf (outcomeOf (length xs) false)) 0)
+unfolding unlessRefused
+judged-length s xs done e = rw done-is-zero (go (eqb (numberOf (outcomeOf (length xs) false)) 0))
   where
     go : (b : Bool) → length (cond b done (left (answer (outcomeOf (length xs) false) s) xs) .places) ≡ length xs
     go true = e

@@ -9,13 +9,13 @@ use lib.Ieee.{Float}
 use Rattle.laws.specs.Literals.{zero32}
 use Rattle.answers.specs.declared.Outcome.{Outcome}
 use Rattle.answers.specs.declared.Outcome.the-variants.{Done, OutputShort, TooLong, OffGrid}
-use Rattle.answers.specs.Numbers.{numberOf, tooLong, refuse}
+use Rattle.answers.specs.Numbers.{numberOf, ifDone, tooLong, refuse}
+use Rattle.answers.proofs.Ended.{if-refused, if-done}
 use Rattle.generator.specs.declared.Wave.the-variants.{DC}
 use Rattle.generator.specs.Sample.{generated}
 use Rattle.port.specs.declared.Reading.{Reading}
 use Rattle.spectrum.specs.Grid.{onGrid}
-use Rattle.spectrum.specs.Spectrum.{outcomeOf, ifDone}
-use Rattle.spectrum.proofs.Ends.{kept, changed}
+use Rattle.spectrum.specs.Spectrum.{outcomeOf}
 use Rattle.signal.specs.declared.State.{State}
 use Rattle.signal.specs.declared.Answer.{Answer}
 use Rattle.signal.specs.State.{zeroState, fresh, withMeasured, asPort}
@@ -27,10 +27,10 @@ module _ (s : State) (xs : List Float) (done : Left) (o : Outcome) (d : ℕ) (en
   judged-by = rw ended
 
   pub refused : (d ≡ 0 → ⊥) → left (answer o s) xs ≡ unlessRefused s xs done
-  refused n = sym (judged-by ∙ kept o done (left (answer o s) xs) d number n)
+  refused n = sym (judged-by ∙ if-refused o done (left (answer o s) xs) d number n)
 
   pub taken : d ≡ 0 → unlessRefused s xs done ≡ done
-  taken z = judged-by ∙ changed o done (left (answer o s) xs) d number z
+  taken z = judged-by ∙ if-done o done (left (answer o s) xs) d number z
 
 -- ---- a port
 

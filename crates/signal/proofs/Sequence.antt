@@ -10,13 +10,13 @@ use lib.Ieee.{Float, lt}
 use Rattle.laws.specs.Filled.{filled}
 use Rattle.laws.specs.Literals.{zero32, tiny32}
 use Rattle.laws.proofs.Filling.{filled-length}
-use Rattle.answers.specs.Numbers.{tooLong}
+use Rattle.answers.specs.Numbers.{ifDone, tooLong}
 use Rattle.answers.specs.declared.Outcome.the-variants.{Done}
 use Rattle.generator.specs.declared.Shape.{Shape}
 use Rattle.generator.specs.Sample.{sampleAt, generated}
 use Rattle.spectrum.specs.Grid.{onGrid}
 use Rattle.spectrum.specs.Bin.{magnitudeOf}
-use Rattle.spectrum.specs.Spectrum.{outcomeOf, ifDone}
+use Rattle.spectrum.specs.Spectrum.{outcomeOf}
 use Rattle.figures.specs.Figures.{figuresOf, answerOf}
 use Rattle.distortion.specs.Thd.{fundamentalBin, usable, thdOf, thdAt, thdFrom}
 use Rattle.signal.specs.declared.State.{State}

@@ -4,6 +4,7 @@ use mathlib.Core.Path.{_≡_, refl}
 use mathlib.Core.List.{List, [], _∷_}
 use lib.Count.{trailingZeros}
 use lib.Ieee.{Float, nan, binary32, add, sub, mul, div, rem, neg, lt, le, sum, round, units, odd, size, span, climb, ofInt, ofBits, ofFields, toUnsigned}
+use Rattle.answers.specs.Numbers.{ifDone}
 use Rattle.laws.specs.Filled.{filled}
 use Rattle.laws.specs.Harmonics.{harmonicsOf, harmonicPower, lastUpTo}
 use Rattle.laws.specs.Samples.{squareOf}
@@ -15,7 +16,7 @@ use Rattle.quarter.specs.Table.{quarterTable}
 use Rattle.quarter.specs.Turn.{fraction, quadrant, sineOf, cosineOf}
 use Rattle.spectrum.specs.Grid.{lengths, onGrid}
 use Rattle.spectrum.specs.Bin.{stepOf, angleOf, turned, sumsTo, sumsOf, sizeOf, magnitudeOf}
-use Rattle.spectrum.specs.Spectrum.{outcomeOf, ifDone}
+use Rattle.spectrum.specs.Spectrum.{outcomeOf}
 use Rattle.timing.specs.Timing.{totalOf, narrowedMean}
 use Rattle.figures.specs.Levels.{sumOf, averageOf, dcRmsOf}
 use Rattle.figures.specs.Figures.{figuresOf, answerOf}

@@ -6,13 +6,14 @@ use lib.ListN.{length}
 use lib.Ieee.{Float}
 use Rattle.answers.specs.declared.Outcome.{Outcome}
 use Rattle.answers.specs.declared.Outcome.the-variants.{Done}
+use Rattle.answers.specs.Numbers.{ifDone}
 use Rattle.laws.specs.Filled.{filled}
 use Rattle.laws.specs.Literals.{zero32}
 use Rattle.generator.specs.declared.Wave.{Wave}
 use Rattle.generator.specs.declared.Wave.the-variants.{DC}
 use Rattle.generator.specs.Sample.{generated}
 use Rattle.port.specs.declared.Reading.{Reading}
-use Rattle.spectrum.specs.Spectrum.{outcomeOf, ifDone}
+use Rattle.spectrum.specs.Spectrum.{outcomeOf}
 use Rattle.signal.specs.declared.State.{State}
 use Rattle.signal.specs.declared.Answer.{Answer}
 use Rattle.signal.specs.State.{zeroState, fresh, withPhase, withDuty, withMeasured, silenced, asPort}

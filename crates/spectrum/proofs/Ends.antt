@@ -7,24 +7,16 @@ use lib.Dec.{ltb}
 use native.Mathlib.Omega.{arith}
 use lib.ListN.{length}
 use lib.Ieee.{Float}
-use borrow.Author.Tests.{eq-eqb, ne-eqb, ltb-false}
+use borrow.Author.Tests.{ltb-false}
 use Rattle.answers.specs.declared.Outcome.{Outcome}
 use Rattle.answers.specs.declared.Outcome.the-variants.{Done, OutputShort, TooLong, OffGrid}
-use Rattle.answers.specs.Numbers.{numberOf, tooLong, refuse}
+use Rattle.answers.specs.Numbers.{numberOf, ifDone, tooLong, refuse}
+use Rattle.answers.proofs.Ended.{if-refused, if-done}
 use Rattle.answers.specs.Written.{written}
 use Rattle.laws.specs.Filled.{filled}
 use Rattle.spectrum.specs.Grid.{onGrid}
-use Rattle.spectrum.specs.Spectrum.{outcomeOf, ifDone, outputShort, bins, spectrumOf}
+use Rattle.spectrum.specs.Spectrum.{outcomeOf, outputShort, bins, spectrumOf}
 use Rattle.spectrum.specs.Sines.{sineAt, worked, spectrumIn}
-
-module _ {A : Type 0} (o : Outcome) (new old : A) (d : ℕ) (number : d ≡ numberOf o) where
-  pub kept : (d ≡ 0 → ⊥) → ifDone o new old ≡ old
-  unfolding ifDone
-  kept n = rw (ne-eqb (numberOf o) 0 (λ e. n (number ∙ e)))
-
-  pub changed : d ≡ 0 → ifDone o new old ≡ new
-  unfolding ifDone
-  changed e = rw (eq-eqb (numberOf o) 0 (sym number ∙ e))
 
 all-clear : (long grid short : Bool) → numberOf (refuse long TooLong (refuse (not grid) OffGrid (refuse short OutputShort Done))) ≡ 0
     → (grid ≡ true) × (short ≡ false)
@@ -44,10 +36,10 @@ module _ (xs out : List Float) (o : Outcome) (d : ℕ) (ended : o ≡ outcomeOf 
   left-in l e = rw (← e, ended)
 
   pub refused : (d ≡ 0 → ⊥) → written o out ≡ spectrumOf xs out
-  refused n = left-in out (kept o (bins xs out) out d number n)
+  refused n = left-in out (if-refused o (bins xs out) out d number n)
 
   pub done : d ≡ 0 → (l : List Float) → l ≡ bins xs out → written o l ≡ spectrumOf xs out
-  done z l e = left-in l (changed o (bins xs out) out d number z ∙ sym e)
+  done z l e = left-in l (if-done o (bins xs out) out d number z ∙ sym e)
 
 -- ---- with lent scratch
 
@@ -68,7 +60,7 @@ module _ (xs w out : List Float) (o : Outcome) (d : ℕ) (ended : o ≡ outcomeO
   left-in-both l v e f = rw (← e, ← f, ended)
 
   pub refused-in : (d ≡ 0 → ⊥) → worked o out w ≡ spectrumIn xs w out
-  refused-in n = left-in-both out w (kept o (bins xs out) out d number n) (kept o (filled (sineAt (length xs)) (length xs) w) w d number n)
+  refused-in n = left-in-both out w (if-refused o (bins xs out) out d number n) (if-refused o (filled (sineAt (length xs)) (length xs) w) w d number n)
 
   pub done-in : d ≡ 0 → (l v : List Float) → l ≡ bins xs out → v ≡ filled (sineAt (length xs)) (length xs) w → worked o l v ≡ spectrumIn xs w out
-  done-in z l v e f = left-in-both l v (changed o (bins xs out) out d number z ∙ sym e) (changed o (filled (sineAt (length xs)) (length xs) w) w d number z ∙ sym f)
+  done-in z l v e f = left-in-both l v (if-done o (bins xs out) out d number z ∙ sym e) (if-done o (filled (sineAt (length xs)) (length xs) w) w d number z ∙ sym f)

@@ -8,10 +8,11 @@ use lib.ListN.{length}
 use lib.Ieee.{Float}
 use borrow.Author.Tests.{lt-ltb, le-ltb}
 use Rattle.answers.specs.declared.Outcome.the-variants.{Done, OutputShort, TooLong, OffGrid}
+use Rattle.answers.specs.Numbers.{ifDone}
 use Rattle.answers.specs.Written.{written}
 use Rattle.laws.specs.Filled.{filled}
 use Rattle.spectrum.specs.Grid.{lengths, onGrid}
-use Rattle.spectrum.specs.Spectrum.{outcomeOf, ifDone, outputShort, spectrumOf}
+use Rattle.spectrum.specs.Spectrum.{outcomeOf, outputShort, spectrumOf}
 use Rattle.spectrum.specs.Sines.{worked, spectrumIn}
 use Rattle.spectrum.proofs.Grid.{grid-le}
 

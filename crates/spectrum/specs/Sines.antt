@@ -7,10 +7,11 @@ use lib.Dec.{ltb}
 use lib.ListN.{length, getD}
 use lib.Ieee.{Float, nan}
 use Rattle.answers.specs.declared.Outcome.{Outcome}
+use Rattle.answers.specs.Numbers.{ifDone}
 use Rattle.laws.specs.Filled.{filled}
 use Rattle.quarter.specs.Turn.{sineOf}
 use Rattle.spectrum.specs.Bin.{stepOf}
-use Rattle.spectrum.specs.Spectrum.{outcomeOf, ifDone, outputShort, bins}
+use Rattle.spectrum.specs.Spectrum.{outcomeOf, outputShort, bins}
 
 -- the sine of place j of n places around the turn
 unfoldable pub sineAt : ℕ → ℕ → Float

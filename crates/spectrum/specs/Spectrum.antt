@@ -7,7 +7,7 @@ use lib.ListN.{length}
 use lib.Ieee.{Float, binary32, div, ofBits}
 use Rattle.answers.specs.declared.Outcome.{Outcome}
 use Rattle.answers.specs.declared.Outcome.the-variants.{Done, OutputShort, TooLong, OffGrid}
-use Rattle.answers.specs.Numbers.{numberOf, tooLong, refuse}
+use Rattle.answers.specs.Numbers.{ifDone, tooLong, refuse}
 use Rattle.answers.specs.Written.{Written, written}
 use Rattle.laws.specs.Filled.{filled}
 use Rattle.spectrum.specs.Grid.{onGrid}
@@ -24,10 +24,6 @@ binOf xs k = halved k (magnitudeOf xs k)
 unfoldable pub outcomeOf : ℕ → Bool → Outcome
 outcomeOf n short = refuse (tooLong n) TooLong (refuse (not (onGrid n)) OffGrid (refuse short OutputShort Done))
 
--- 01, "Nothing but 0 writes to what was lent"
-unfoldable pub ifDone : {A : Type 0} → Outcome → A → A → A
-ifDone o new old = cond (eqb (numberOf o) 0) new old
-
 -- 01, "a lent output is shorter than what must be written"
 abbrev pub outputShort : List Float → List Float → Bool
 outputShort xs out = ltb (length out) (length xs / 2)
@@ -36,7 +32,7 @@ outputShort xs out = ltb (length out) (length xs / 2)
 abbrev pub bins : List Float → List Float → List Float
 bins xs out = filled (binOf xs) (length xs / 2) out
 
--- 01, item 6, `dft_magnitude_spectrum`: how it ends, and the output with its bins where it is done
+-- 01, item 6, `dft_magnitude_spectrum`: how it ends, and the output with its bins where it is done; "Nothing but 0 writes to what was lent"
 unfoldable pub spectrumOf : List Float → List Float → Written Float
 spectrumOf xs out =
     let o = outcomeOf (length xs) (outputShort xs out) in

@@ -8,6 +8,7 @@ use lib.IntN.{ℤ, pos, negsuc}
 use lib.Ieee.{Float, nan, binary32, add, sub, mul, div, neg, sum, round, units, odd, size, span, climb, lt, le, ofInt, ofBits, ofFields}
 use Rattle.answers.specs.declared.Measured.{Measured}
 use Rattle.answers.specs.declared.Outcome.the-variants.{Done, LengthsDiffer}
+use Rattle.answers.specs.Numbers.{ifDone}
 use Rattle.answers.specs.Written.{Written, written}
 use Rattle.laws.specs.Filled.{filled}
 use Rattle.laws.specs.Front.{onto}
@@ -26,7 +27,7 @@ use Rattle.quarter.specs.Table.{quarterTable}
 use Rattle.quarter.specs.Turn.{fraction, quadrant, sineOf, cosineOf}
 use Rattle.spectrum.specs.Grid.{lengths, onGrid}
 use Rattle.spectrum.specs.Bin.{stepOf, angleOf, turned, sumsTo, sumsOf, sizeOf, magnitudeOf}
-use Rattle.spectrum.specs.Spectrum.{halved, binOf, outcomeOf, ifDone, spectrumOf}
+use Rattle.spectrum.specs.Spectrum.{halved, binOf, outcomeOf, spectrumOf}
 use Rattle.hex.specs.Digit.{within, isDigit, digitOf}
 use Rattle.hex.specs.Code.{codeOf}
 use Rattle.frame.specs.Line.{after, pairAt, wordAt, allDigits, sequenceOf, countOf, rightForm, sumOf, rightSum, lineOf, runCodes, codesBy, lineCodes}
