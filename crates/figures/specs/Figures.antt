@@ -1,5 +1,6 @@
 -- The 19 time figures of a capture (01, item 5: "steps 1 to 9 of `calculate_metrics`, 19 of the 24 fields of `SignalMetrics`"), one definition each, and the answer. Definitions only.
--- The samples are one second, so the sample rate is their count.
+-- No sample rate is given. For frequency, period and slew rate the samples are one second, so that the rate is their count: the Rust's "Buffer represents 1 second of
+-- data (sample_rate == num_samples)". For rise and fall time they are one period of the frequency handed in where that is above 0 (Edges.antt, `sampleTimeOf`).
 use mathlib.Core.Bool.{cond}
 use mathlib.Core.List.{List}
 use lib.Dec.{eqb}

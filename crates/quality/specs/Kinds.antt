@@ -1,4 +1,5 @@
--- Each case of a quotient by a number and a ratio. 01, "Where an answer is an enum, a definition gives this paper's number and values for each of its cases". Definitions only.
+-- Each case of a quotient by a number and a ratio: 01, "Where an answer is an enum, a definition gives this paper's number and values for each of its cases". 01 names the cases
+-- and gives them no numbers: 0, 1 and 2 are ours, and the header's. Definitions only.
 use Prim.Native.Nat.{ℕ}
 use lib.Ieee.{Float}
 use Rattle.laws.specs.Literals.{zero32, zero64}
