@@ -21,9 +21,6 @@ maxOf xs = over higher (inf true) xs (length xs)
 unfoldable pub minOf : List Float → Float
 minOf xs = over lower (inf false) xs (length xs)
 
-abbrev pub extremesOf : List Float → Extremes
-extremesOf xs = record { max = maxOf xs; min = minOf xs }
-
 -- ---- sums. 01, "Sums are f64, in index order from 0"
 
 -- f of one sample more
@@ -39,9 +36,6 @@ away average x = squareOf (sub binary32 x average)
 
 abbrev pub rippleOf : Float → List Float → Float
 rippleOf average xs = sumOf (away average) xs
-
-abbrev pub levelSums : List Float → Sums
-levelSums xs = record { total = totalOf xs; squares = sumOf squareOf xs; sizes = sumOf abs xs }
 
 -- ---- means, each an f64 quotient, narrowed once
 
@@ -62,7 +56,13 @@ dcRmsOf xs = root binary32 (narrowedMean (sumOf squareOf xs) (length xs))
 unfoldable pub acRmsOf : List Float → Float
 acRmsOf xs = root binary32 (narrowedMean (rippleOf (averageOf xs) xs) (length xs))
 
--- ---- all six
+-- ---- for the code alone: its records of several of these. No public contract cites what follows
+
+abbrev pub extremesOf : List Float → Extremes
+extremesOf xs = record { max = maxOf xs; min = minOf xs }
+
+abbrev pub levelSums : List Float → Sums
+levelSums xs = record { total = totalOf xs; squares = sumOf squareOf xs; sizes = sumOf abs xs }
 
 abbrev pub levelsOf : List Float → Levels
 levelsOf xs = record { max = maxOf xs; min = minOf xs; average = averageOf xs; «dc_rms» = dcRmsOf xs; «ac_rms» = acRmsOf xs; rectified = rectifiedOf xs }

@@ -17,6 +17,8 @@ lower m x = cond (lt x m) x m
 unfoldable pub squareOf : Float → Float
 squareOf x = mul binary64 x x
 
+-- ---- for loops and proofs alone: no public contract cites what follows
+
 -- no number below zero, nor -0: a NaN, or a float whose sign is clear
 unfoldable pub unsigned : Float → Bool
 unsigned nan = true

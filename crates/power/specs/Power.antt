@@ -63,10 +63,6 @@ recordOf t = recordWith (activeOf t) (apparentOf t)
 abbrev pub zeroPower : Power
 zeroPower = record { p = ofBits binary32 0; q = ofBits binary32 0; s = ofBits binary32 0; pf = ofBits binary32 0 }
 
--- 01, "Power of NaN and 1: p and s NaN, q and pf 0"
-abbrev pub nanPower : Power
-nanPower = record { p = nan; q = ofBits binary32 0; s = nan; pf = ofBits binary32 0 }
-
 abbrev pub answered : Outcome → Power → PowerAnswer
 answered o r = record { outcome = o; power = r }
 
@@ -83,3 +79,9 @@ unfoldable pub answerOf : List Float → List Float → PowerAnswer
 answerOf v i =
     let o = outcomeOf (length v) (length i) in
     answered o (ifDone o (powerOf v i) zeroPower)
+
+-- ---- for the code alone: no public contract cites what follows
+
+-- of a capture that holds a NaN: what `recordOf` gives (proofs/NotNumbers.antt)
+abbrev pub nanPower : Power
+nanPower = record { p = nan; q = ofBits binary32 0; s = nan; pf = ofBits binary32 0 }

@@ -1,4 +1,4 @@
--- A slice in which so many places from a place on are written, and whose other places stay. Definitions only.
+-- For the loops alone: no public contract cites this file. A slice in which so many places from a place on are written, and whose other places stay. Definitions only.
 use mathlib.Core.List.{List, [], _∷_}
 use Prim.Native.Nat.{ℕ, zero, suc}
 use lib.ListN.{getD}

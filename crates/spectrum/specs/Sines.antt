@@ -34,6 +34,8 @@ spectrumIn xs w out =
     let o = outcomeOf n (outputShort xs out || ltb (length w) n) in
     worked o (ifDone o (bins xs out) out) (ifDone o (filled (sineAt n) n w) w)
 
+-- ---- for the loops alone: no public contract cites what follows
+
 -- a list whose first n places hold the n sines
 pub record Sines (n : ℕ) (w : List Float) : Type 0 where
   pub room : n ≤ length w
