@@ -1,13 +1,14 @@
 -- What the five calls of `quality` answer, operation by operation (01, item 7). Definitions only.
 use Prim.Native.Nat.{ℕ, _-_}
-use mathlib.Core.Bool.{cond}
+use mathlib.Core.Bool.{Bool, cond, _||_}
 use mathlib.Core.List.{List}
-use lib.Dec.{ltb, eqb}
+use lib.Dec.{leb, eqb}
 use lib.ListN.{length, getD}
 use lib.Ieee.{Float, nan, binary32, binary64, sub, div, lt, ofBits}
 use Rattle.answers.specs.declared.Measured.{Measured}
 use Rattle.answers.specs.declared.Outcome.the-variants.{Done, TooLong}
 use Rattle.answers.specs.Numbers.{tooLong}
+use Rattle.answers.specs.Measured.{measured}
 use Rattle.laws.specs.Literals.{zero32, zero64, tiny32}
 use Rattle.laws.specs.Quotients.{percentOf}
 use Rattle.laws.specs.Samples.{higher, squareOf}
@@ -18,18 +19,11 @@ use Rattle.quality.specs.declared.QuotientAnswer.{QuotientAnswer}
 use Rattle.quality.specs.declared.Sfdr.{Sfdr}
 use Rattle.quality.specs.declared.Sfdr.the-variants as S
 use Rattle.quality.specs.declared.SfdrAnswer.{SfdrAnswer}
-use Rattle.quality.specs.declared.Verdict.{Verdict}
-use Rattle.quality.specs.declared.Verdict.the-variants.{Refused, Unusable, Usable}
 use Rattle.quality.specs.Powers.{powerIn}
 
--- ---- which answer is given: 01, row 3, for more than 65,536 places; then "a bin of 0 or past the end is unusable"
-unfoldable pub judged : ℕ → ℕ → Verdict
-judged n b = cond (tooLong n) Refused (cond (eqb b 0) Unusable (cond (ltb b n) Usable Unusable))
-
-abbrev pub given : {A : Type 0} → Verdict → A → A → A → A
-given Refused refused unusable usable = refused
-given Unusable refused unusable usable = unusable
-given Usable refused unusable usable = usable
+-- ---- 01, item 7: "a bin of 0 or past the end is unusable", the bin b of n places
+unfoldable pub unusableBin : ℕ → ℕ → Bool
+unusableBin n b = eqb b 0 || leb n b
 
 -- ---- distortion in percent: the root of the harmonics' power, narrowed, in percent of the fundamental; 0 for a fundamental below 1e-12.
 -- `compute_thd_from_spectrum` "sums every multiple of the fundamental", from order 2 on
@@ -37,11 +31,9 @@ unfoldable pub thdOfSpectrum : List Float → ℕ → Float
 thdOfSpectrum s b =
     cond (lt (getD s b nan) tiny32) zero32 (percentOf (narrowedRoot (powerIn s b 2)) (getD s b nan))
 
--- "a THD of 0.0 for a fundamental bin of 0 or past the end"
+-- 01, row 3: 3 for more than 65,536 places, whatever the bin; else "a THD of 0.0 for a fundamental bin of 0 or past the end", which is no refusal
 unfoldable pub answerThd : List Float → ℕ → Measured
-answerThd s b =
-    given (judged (length s) b) (record { outcome = TooLong; value = zero32 }) (record { outcome = Done; value = zero32 })
-    (record { outcome = Done; value = thdOfSpectrum s b })
+answerThd s b = measured (length s) (cond (unusableBin (length s) b) zero32 (thdOfSpectrum s b))
 
 -- ---- effective bits: 1.76 and 6.02 are the f32 nearest to them
 unfoldable pub enobOf : Float → Float
@@ -68,11 +60,11 @@ snrOf s b = overNoise (ownOf s b) (sub binary64 (sub binary64 (totalPower s) (ow
 unfoldable pub sinadOf : List Float → ℕ → Float
 sinadOf s b = overNoise (ownOf s b) (sub binary64 (totalPower s) (ownOf s b))
 
--- "All three answer by name that a bin of 0 or past the end is unusable"; in a refusal "a quotient the ratio 0"
+-- 01, row 3: 3 for more than 65,536 places, whatever the bin, and in a refusal "a quotient the ratio 0"; else "All three answer by name that a bin of 0 or past the end is unusable"
 unfoldable pub answerQuotient : (List Float → ℕ → Float) → List Float → ℕ → QuotientAnswer
 answerQuotient ratio s b =
-    given (judged (length s) b) (record { outcome = TooLong; quotient = Q.Ratio zero64 }) (record { outcome = Done; quotient = Q.UnusableBin })
-    (record { outcome = Done; quotient = Q.Ratio (ratio s b) })
+    cond (tooLong (length s)) (record { outcome = TooLong; quotient = Q.Ratio zero64 })
+    (record { outcome = Done; quotient = cond (unusableBin (length s) b) Q.UnusableBin (Q.Ratio (ratio s b)) })
 
 -- ---- the fundamental over the largest spur
 
@@ -91,5 +83,5 @@ sfdrOf s b = cond (lt tiny32 (spurOf s b)) (S.Ratio (div binary32 (getD s b nan)
 -- as `answerQuotient`, for the quotient of `compute_sfdr`
 unfoldable pub answerSfdr : List Float → ℕ → SfdrAnswer
 answerSfdr s b =
-    given (judged (length s) b) (record { outcome = TooLong; quotient = S.Ratio zero32 }) (record { outcome = Done; quotient = S.UnusableBin })
-    (record { outcome = Done; quotient = sfdrOf s b })
+    cond (tooLong (length s)) (record { outcome = TooLong; quotient = S.Ratio zero32 })
+    (record { outcome = Done; quotient = cond (unusableBin (length s) b) S.UnusableBin (sfdrOf s b) })

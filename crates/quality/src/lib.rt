@@ -6,7 +6,8 @@ ghost use lib.Ieee.{ne};
 ghost use lib.ListN.{length};
 ghost use Rattle.laws.specs.Samples.{numbersIn, squareOf};
 ghost use Rattle.quality.specs.Powers.{powerIn, Inside, Summed, squaresAtOnce, withSquares};
-ghost use Rattle.quality.specs.Quality.{judged, thdOfSpectrum, answerThd, enobOf, overNoise, snrOf, sinadOf, answerQuotient, spurAt, spurOf, sfdrOf, answerSfdr};
+ghost use Rattle.quality.specs.Judged.{judged};
+ghost use Rattle.quality.specs.Quality.{unusableBin, thdOfSpectrum, answerThd, enobOf, overNoise, snrOf, sinadOf, answerQuotient, spurAt, spurOf, sfdrOf, answerSfdr};
 use answers::LONGEST;
 use answers::Measured;
 use answers::Outcome;
@@ -69,17 +70,25 @@ enum Verdict {
     Usable,
 }
 
-// Of n places and this bin.
+// Whether this bin of n places is 0 or past the end.
+fn is_unusable(n: usize, bin: usize) -> bool
+    ensures { λ r. ⌜ r ≡ unusableBin n bin ⌝ }
+{
+    if bin == 0 {
+        return true;
+    }
+    bin >= n
+}
+
+// Of n places and this bin: too many places are refused whatever the bin.
 fn judge(n: usize, bin: usize) -> Verdict
     ensures { λ r. ⌜ r ≡ judged n bin ⌝ }
 {
+    let unusable = is_unusable(n, bin);
     if n > LONGEST {
         return Verdict::Refused;
     }
-    if bin == 0 {
-        return Verdict::Unusable;
-    }
-    if bin >= n {
+    if unusable {
         return Verdict::Unusable;
     }
     Verdict::Usable

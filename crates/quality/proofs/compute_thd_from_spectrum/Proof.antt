@@ -1,8 +1,9 @@
 -- `quality::compute_thd_from_spectrum` meets its contract: one answer for each verdict. Assumes nothing.
 use mathlib.Core.Path.{sym, _∙_}
 use borrow.Author.Needs.{needs}
+use Rattle.quality.specs.declared.Verdict.the-variants.{Refused, Unusable, Usable}
 use Rattle.quality.specs.Quality.{answerThd}
-use Rattle.quality.proofs.Verdicts.{usable}
+use Rattle.quality.proofs.Verdicts.{verdict-says, usable}
 use Rattle.quality.proofs.compute_thd_from_spectrum.Statement.{statement}
 use Rattle.quality.proofs.compute_thd_from_spectrum.Tie as tie
 
@@ -23,15 +24,19 @@ distortion-requires c κs = usable (sym (c .enum-told3 .given .1) ∙ c .before 
 
 returns : tie.Need-returns
 unfolding answerThd
-returns c = rw (← c .before .before .judge .ensures, c .enum-told .given .1)
+returns c = rw (verdict-says _ _ Refused (sym (c .enum-told .given .1) ∙ c .before .before .judge .ensures))
 
 returns-2 : tie.Need-returns-2
 unfolding answerThd
-returns-2 c = rw (← c .before .before .judge .ensures, c .enum-told2 .given .1)
+returns-2 c =
+    let s = verdict-says _ _ Unusable (sym (c .enum-told2 .given .1) ∙ c .before .before .judge .ensures) in
+    rw (s .0, s .1)
 
 returns-3 : tie.Need-returns-3
 unfolding answerThd
-returns-3 c = rw (← c .before .before .before .judge .ensures, c .before .enum-told3 .given .1, c .distortion .ensures)
+returns-3 c =
+    let s = verdict-says _ _ Usable (sym (c .before .enum-told3 .given .1) ∙ c .before .before .before .judge .ensures) in
+    rw (s .0, s .1, c .distortion .ensures)
 
 pub compute-thd-from-spectrum-spec : {M : Type 1} → statement M
 compute-thd-from-spectrum-spec =
