@@ -10,7 +10,7 @@ use Rattle.generator.specs.declared.Wave.{Wave}
 use Rattle.laws.specs.Walks.{over, pairs}
 use Rattle.figures.specs.declared.edges.Edges.{Edges}
 use Rattle.figures.specs.Duty.{isHigh, tally, highsOf}
-use Rattle.figures.specs.Edges.{rising, falling, noEdge, riseBegins, riseCounts, fallBegins, fallCounts, edgeAt, edgesOf}
+use Rattle.figures.specs.Edges.{riseNumber, fallNumber, noEdge, riseBegins, riseCounts, fallBegins, fallCounts, edgeAt, edgesOf}
 
 -- ---- high samples
 module _ (wave : Wave) (amplitude : Float) (xs : List Float) where
@@ -37,13 +37,13 @@ module _ (k l : ℕ) (s : Edges) (w : Within k l s) where
   unfolding riseBegins
   rise-begins low prev curr = go (le prev low && lt low curr)
     where
-      go : (b : Bool) → Within k l (cond b (record { edge = rising; rise = 0; fall = s .fall }) s)
+      go : (b : Bool) → Within k l (cond b (record { edge = riseNumber; rise = 0; fall = s .fall }) s)
       go true = record { rise = omega arith; fall = w .fall }
       go false = w
 
   pub rise-counts : (high curr : Float) → Within (suc k) l (riseCounts high s curr)
   unfolding riseCounts
-  rise-counts high curr = go (eqb (s .edge) rising && le curr high)
+  rise-counts high curr = go (eqb (s .edge) riseNumber && le curr high)
     where
       go : (b : Bool) → Within (suc k) l (cond b (record { edge = s .edge; rise = s .rise + 1; fall = s .fall }) s)
       go true = record { rise = omega (arith, w .rise); fall = w .fall }
@@ -53,13 +53,13 @@ module _ (k l : ℕ) (s : Edges) (w : Within k l s) where
   unfolding fallBegins
   fall-begins high prev curr = go (le high prev && lt curr high)
     where
-      go : (b : Bool) → Within k l (cond b (record { edge = falling; rise = s .rise; fall = 0 }) s)
+      go : (b : Bool) → Within k l (cond b (record { edge = fallNumber; rise = s .rise; fall = 0 }) s)
       go true = record { rise = w .rise; fall = omega arith }
       go false = w
 
   pub fall-counts : (low curr : Float) → Within k (suc l) (fallCounts low s curr)
   unfolding fallCounts
-  fall-counts low curr = go (eqb (s .edge) falling && le low curr)
+  fall-counts low curr = go (eqb (s .edge) fallNumber && le low curr)
     where
       go : (b : Bool) → Within k (suc l) (cond b (record { edge = s .edge; rise = s .rise; fall = s .fall + 1 }) s)
       go true = record { rise = w .rise; fall = omega (arith, w .fall) }

@@ -16,6 +16,7 @@ use Rattle.figures.specs.declared.TimeFigures.{TimeFigures}
 use Rattle.figures.specs.Levels.{extremesOf, levelSums, rippleOf, averageOf, rectifiedOf, dcRmsOf, acRmsOf, levelsOf}
 use Rattle.figures.specs.Duty.{dutyOf}
 use Rattle.figures.specs.Edges.{edgesBetween, timesOf}
+use Rattle.figures.proofs.Flags.{rise-time, fall-time}
 use Rattle.figures.specs.Ratios.{crestOf, periodOf, excessOf}
 use Rattle.figures.specs.Figures.{figuresOf}
 
@@ -65,4 +66,5 @@ pub figures-whole : (wave : Wave) (amplitude frequency : Float) (xs : List Float
     → over ≡ excessOf (l .max) amplitude (sub binary32 (l .max) (l .min)) → under ≡ excessOf (neg amplitude) (l .min) (sub binary32 (l .max) (l .min))
     → figuresWith l amplitude duty times crest hertz period form over under slew ≡ figuresOf wave amplitude frequency xs
 unfolding figuresOf
-figures-whole wave amplitude frequency xs l du ti ra he sl cr pe fo ov un = rw (un, ov, fo, pe, cr, sl, he, ra, ti, du, l)
+figures-whole wave amplitude frequency xs l du ti ra he sl cr pe fo ov un =
+    rw (un, ov, fo, pe, cr, sl, he, ra, ti, du, l, rise-time, fall-time)

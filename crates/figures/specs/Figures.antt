@@ -15,10 +15,9 @@ use Rattle.laws.specs.Quotients.{ratioOrZero}
 use Rattle.timing.specs.Timing.{frequencyAbout, slewOf}
 use Rattle.figures.specs.declared.TimeFigures.{TimeFigures}
 use Rattle.figures.specs.declared.TimeAnswer.{TimeAnswer}
-use Rattle.figures.specs.declared.edges.Edges.{Edges}
 use Rattle.figures.specs.Levels.{maxOf, minOf, averageOf, dcRmsOf, acRmsOf, rectifiedOf}
 use Rattle.figures.specs.Duty.{dutyOf}
-use Rattle.figures.specs.Edges.{edgesBetween, timesOf}
+use Rattle.figures.specs.Edges.{Seen, seenBetween, edgeTimeOf}
 use Rattle.figures.specs.Ratios.{crestOf, periodOf, excessOf}
 
 -- ---- of the levels: max, min, average, dc_rms and ac_rms are those of Levels.antt
@@ -53,14 +52,14 @@ abbrev pub restOf : Wave → Float → List Float → Float
 restOf wave amplitude xs = sub binary32 one32 (dutyOf wave amplitude xs)
 
 -- the samples of the last rise and the last fall, between the thresholds of the samples' own extremes. 01, "Samples 0 to 10 rise in 8 samples"
-abbrev pub edgesIn : List Float → Edges
-edgesIn xs = edgesBetween (minOf xs) (peakToPeakOf xs) xs
+abbrev pub edgesIn : List Float → Seen
+edgesIn xs = seenBetween (minOf xs) (peakToPeakOf xs) xs
 
 abbrev pub riseTimeOf : Float → List Float → Float
-riseTimeOf frequency xs = timesOf (edgesIn xs) frequency (length xs) .rise
+riseTimeOf frequency xs = edgeTimeOf frequency (length xs) (edgesIn xs .rise)
 
 abbrev pub fallTimeOf : Float → List Float → Float
-fallTimeOf frequency xs = timesOf (edgesIn xs) frequency (length xs) .fall
+fallTimeOf frequency xs = edgeTimeOf frequency (length xs) (edgesIn xs .fall)
 
 abbrev pub hertzOf : List Float → Float
 hertzOf xs = frequencyAbout (averageOf xs) xs (count32 (length xs))
