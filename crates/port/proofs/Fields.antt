@@ -1,11 +1,17 @@
--- That a port is the list of its fields: nothing is lost on the way there and back, and `put` sets one field and leaves the other 25. Assumes nothing.
-use mathlib.Core.Path.{_≡_, refl}
-use Prim.Native.Nat.{ℕ, _<_}
+-- That a port is the list of its fields: nothing is lost on the way there and back, `put` sets one field and leaves the other 25, and `puts` sets the
+-- fields that its rows name and leaves all others. Assumes nothing.
+use mathlib.Core.Path.{_≡_, refl, sym, ap, _∙_}
+use mathlib.Core.Bool.{Bool, true, false, cond}
+use mathlib.Core.List.{List, [], _∷_, map}
+use Prim.Native.Nat.{ℕ, zero, suc, _<_}
 use native.Mathlib.Omega.{arith}
 use borrow.Author.Count.{below-none, below-more}
-use lib.ListN.{set}
+use borrow.Author.Tests.{eqb-true, eqb-false}
+use lib.Dec.{eqb}
+use lib.ListN.{length, set, getD}
+use lib.Seq.{getD-set-same, getD-set-other}
 use Rattle.port.specs.declared.Port.{Port}
-use Rattle.port.specs.Fields.{Cell, number, reading, places, flag, cells, cellAt, numberIn, slotIn, placesIn, flagIn, portWith, put}
+use Rattle.port.specs.Fields.{Cell, number, reading, places, flag, cells, cellAt, numberIn, slotIn, placesIn, flagIn, portWith, put, Row, row, puts}
 
 -- so `cells` tells any two ports apart
 pub whole : (p : Port) → portWith (cells p) ≡ p
@@ -76,3 +82,44 @@ put-is-set p =
     let b25 = below-more (SetAt p) 24 b24 (λ x e. rw (is-flag x e)) in
     let b26 = below-more (SetAt p) 25 b25 (λ x e. rw (is-reading x e)) in
     b26
+
+-- ---- rows
+
+-- the kind of a field's cell is the same in every port
+kind-in : (l : List Cell) (i : ℕ) → kind (cellAt l i) ≡ getD (map kind l) i 3
+kind-in [] i = refl
+kind-in (x ∷ l) zero = refl
+kind-in (x ∷ l) (suc i) = kind-in l i
+
+pub same-kind : (p q : Port) (i : ℕ) → kind (cellAt (cells p) i) ≡ kind (cellAt (cells q) i)
+same-kind p q i = kind-in (cells p) i ∙ sym (kind-in (cells q) i)
+
+-- each row names a field and holds what that field holds
+abbrev pub Fits : Port → List Row → Type 0
+Fits p [] = Unit
+Fits p (row i x ∷ rows) = (i < 26) × ((kind x ≡ kind (cellAt (cells p) i)) × Fits p rows)
+
+-- what stands at i after the rows: what the last row that names i holds, and x where none does
+abbrev pub laid : List Row → ℕ → Cell → Cell
+laid [] i x = x
+laid (row j y ∷ rows) i x = laid rows i (cond (eqb j i) y x)
+
+set-at : (l : List Cell) (j i : ℕ) (y : Cell) → j < length l → cellAt (set l j y) i ≡ cond (eqb j i) y (cellAt l i)
+set-at l j i y h = go (eqb j i) refl
+  where
+    go : (b : Bool) → eqb j i ≡ b → cellAt (set l j y) i ≡ cond b y (cellAt l i)
+    go true e = let same : j ≡ i = eqb-true j i e in rw (← same) (getD-set-same l j y (flag false) h)
+    go false e = getD-set-other l j i y (flag false) (λ q. eqb-false j i e (sym q))
+
+pub put-at : (p : Port) (j : ℕ) (y : Cell) → j < 26 → kind y ≡ kind (cellAt (cells p) j) → (i : ℕ) → cellAt (cells (put p j y)) i ≡ cond (eqb j i) y (cellAt (cells p) i)
+put-at p j y h k i = ap (λ (l : List Cell). cellAt l i) (put-is-set p j h y k) ∙ set-at (cells p) j i y h
+
+fits-in : (p q : Port) (rows : List Row) → Fits p rows → Fits q rows
+fits-in p q [] f = tt
+fits-in p q (row i x ∷ rows) f = (f .0, (f .1 .0 ∙ same-kind p q i, fits-in p q rows (f .1 .1)))
+
+-- so the fields that the rows name are theirs, and all others stay
+pub puts-at : (p : Port) (rows : List Row) → Fits p rows → (i : ℕ) → cellAt (cells (puts p rows)) i ≡ laid rows i (cellAt (cells p) i)
+puts-at p [] f i = refl
+puts-at p (row j y ∷ rows) f i =
+    puts-at (put p j y) rows (fits-in p (put p j y) rows (f .1 .1)) i ∙ ap (laid rows i) (put-at p j y (f .0) (f .1 .0) i)

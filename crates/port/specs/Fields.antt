@@ -97,7 +97,7 @@ at-is-faulted = 24
 abbrev pub at-temperature : ℕ
 at-temperature = 25
 
--- ---- there and back
+-- ---- there and back: for `put` and its laws; no contract cites these
 abbrev pub cells : Port → List Cell
 cells p =
     number (p .voltage) ∷
@@ -190,3 +190,12 @@ portWith l = record {
 -- 01, item 9, what each setter does: p with the field at i set to x, and all others as they were
 abbrev pub put : Port → ℕ → Cell → Port
 put p i x = portWith (set (cells p) i x)
+
+-- a field, and what it is set to
+pub data Row : Type 0 where
+  row : ℕ → Cell → Row
+
+-- p with the rows laid into it from the first on, one setter after another: the fields that they name are theirs, all others stay (`puts-at`, `proofs/Fields.antt`)
+abbrev pub puts : Port → List Row → Port
+puts p [] = p
+puts p (row i x ∷ rows) = puts (put p i x) rows

@@ -15,11 +15,13 @@ use Rattle.laws.specs.Literals.{zero32}
 use Rattle.laws.specs.Filled.{filled}
 use Rattle.laws.proofs.Filling.{filled-length}
 use Rattle.generator.specs.declared.Wave.{Wave}
+use Rattle.generator.specs.declared.Wave.the-variants.{DC}
 use Rattle.generator.specs.declared.Shape.{Shape}
 use Rattle.generator.specs.Sample.{generated, sampleAt}
 use Rattle.port.specs.declared.Reading.{Reading}
 use Rattle.spectrum.specs.Spectrum.{outcomeOf}
 use Rattle.signal.specs.declared.State.{State}
+use Rattle.signal.specs.declared.Answer.{Answer}
 use Rattle.signal.specs.Calls.{Left, left, answer, unlessRefused, made, remade, newOf, phaseSet, dutySet, newPortOf, resetOf}
 
 generated-length : (s : Shape) (xs : List Float) → length (generated s xs .places) ≡ length xs
@@ -51,9 +53,13 @@ phase-length top s phase xs = remade-length top _ _ xs
 pub duty-length : (top : ℕ) (s : State) (duty : Float) (xs : List Float) → length (dutySet top s duty xs .places) ≡ length xs
 duty-length top s duty xs = remade-length top _ _ xs
 
+either-length : (b : Bool) (a : Answer) (l : Left) → length (cond b (left a (l .places)) l .places) ≡ length (l .places)
+either-length true a l = refl
+either-length false a l = refl
+
 pub port-length : (top : ℕ) (voltage current : Float) (frequency : Reading) (xs : List Float) → length (newPortOf top voltage current frequency xs .places) ≡ length xs
-unfolding newPortOf
-port-length top voltage current frequency xs = judged-length _ xs _ (generated-length _ xs)
+unfolding newPortOf ifDone
+port-length top voltage current frequency xs = either-length _ _ (newOf top DC voltage zero32 xs) ∙ new-length top DC voltage zero32 xs
 
 pub reset-length : (s : State) (xs : List Float) → length (resetOf s xs .places) ≡ length xs
 unfolding resetOf

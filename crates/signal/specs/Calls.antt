@@ -60,11 +60,12 @@ phaseSet top s phase xs = remade top s (withPhase s phase) xs
 abbrev pub dutySet : ℕ → State → Float → List Float → Left
 dutySet top s duty xs = remade top s (withDuty s duty) xs
 
--- the Rust makes a DC signal of that amplitude, whose frequency is 0, and then sets the readings
+-- 01, item 10, `new_power_port`: the Rust's `new` of a DC wave of that amplitude and frequency 0, and then its readings set; what `new` refused stays as it is
 unfoldable pub newPortOf : ℕ → Float → Float → Reading → List Float → Left
 newPortOf top voltage current frequency xs =
-    let ys = generated (fresh DC voltage zero32 .shape) xs .places in
-    unlessRefused zeroState xs (left (answer Done (asPort (withMeasured top (fresh DC voltage zero32) ys) voltage current frequency)) ys)
+    let l = newOf top DC voltage zero32 xs in
+    let o = l .answer .outcome in
+    ifDone o (left (answer o (asPort (l .answer .state) voltage current frequency)) (l .places)) l
 
 -- 01, item 10, `reset_waveform`: every sample 0, and the state of silence
 unfoldable pub resetOf : State → List Float → Left

@@ -1,7 +1,7 @@
 -- A signal's state: where it starts, what a setting changes, and what is measured of the samples. Definitions only.
 use Prim.Native.Nat.{ℕ}
 use mathlib.Core.Bool.{false, cond}
-use mathlib.Core.List.{List}
+use mathlib.Core.List.{List, [], _∷_}
 use lib.Ieee.{Float, binary32, mul, lt}
 use Rattle.laws.specs.Literals.{zero32, one32}
 use Rattle.number.specs.Number.{abs}
@@ -12,7 +12,7 @@ use Rattle.generator.specs.Sample.{shapeOf, half}
 use Rattle.port.specs.declared.Port.{Port}
 use Rattle.port.specs.declared.Reading.{Reading}
 use Rattle.port.specs.declared.Reading.the-variants.{Number, Absent}
-use Rattle.port.specs.Fields.{put, number, reading, flag, at-voltage, at-current, at-frequency, at-phase-angle, at-active-power, at-apparent-power, at-power-factor, at-displacement-pf, at-voltage-thd, at-voltage-crest-factor, at-is-enabled}
+use Rattle.port.specs.Fields.{put, Row, row, puts, number, reading, flag, at-voltage, at-current, at-frequency, at-phase-angle, at-active-power, at-apparent-power, at-power-factor, at-displacement-pf, at-voltage-thd, at-voltage-crest-factor, at-is-enabled}
 use Rattle.port.specs.Readings.{cleared}
 use Rattle.figures.specs.declared.TimeFigures.{TimeFigures}
 use Rattle.figures.specs.Figures.{answerOf}
@@ -20,6 +20,7 @@ use Rattle.distortion.specs.Thd.{thdOf}
 use Rattle.signal.specs.declared.State.{State}
 use Rattle.signal.specs.declared.Metrics.{Metrics}
 
+-- the 19 figures before anything is measured, and after a reset: the Rust's `new` and `reset_waveform` set each to 0.0
 abbrev pub zeroFigures : TimeFigures
 zeroFigures = record {
   «peak_to_peak» = zero32;
@@ -52,17 +53,21 @@ zeroState = record {
   thd = zero32;
 }
 
--- ---- the Rust's `new`, before anything is generated: phase 0, duty cycle a half; a frequency reading for every wave but DC
+-- ---- the Rust's `new`, before anything is generated
 
+-- DC apart from the other three, as the Rust's `is_dc`
 abbrev pub ofKind : {A : Type 0} → Wave → A → A → A
 ofKind DC a b = a
 ofKind PWM a b = b
 ofKind Triangular a b = b
 ofKind Sawtooth a b = b
 
+-- the Rust's `if is_dc { None } else { Some(frequency) }`
 abbrev pub frequencyReading : Wave → Float → Reading
 frequencyReading wave frequency = ofKind wave Absent (Number frequency)
 
+-- phase 0, duty cycle a half, nothing measured; a port with its defaults and that frequency. The Rust puts the amplitude into the voltage here: `withMeasured`
+-- replaces it before anyone reads it
 unfoldable pub fresh : Wave → Float → Float → State
 fresh wave amplitude frequency = record {
   shape = shapeOf wave amplitude zero32 frequency half;
@@ -88,13 +93,18 @@ withDuty s d = withShape s (shapeOf (s .shape .wave) (s .shape .amplitude) (s .s
 
 -- ---- what is measured of the samples, and the three readings of the port that follow it
 
--- the mean of a DC signal, the RMS of any other
+-- the Rust's `if is_dc { average } else { dc_rms }`: the mean of a DC wave, the RMS of any other
 unfoldable pub voltageOf : Wave → TimeFigures → Float
 voltageOf wave f = ofKind wave (f .average) (f .«dc_rms»)
 
+-- the Rust's order; the other 23 fields stay
 unfoldable pub levelled : Port → Float → Float → Float → Port
 levelled p voltage crest thd =
-    put (put (put p at-voltage (number voltage)) at-voltage-crest-factor (reading (Number crest))) at-voltage-thd (reading (Number thd))
+    puts p
+    (row at-voltage (number voltage) ∷
+    row at-voltage-crest-factor (reading (Number crest)) ∷
+    row at-voltage-thd (reading (Number thd)) ∷
+    [])
 
 -- 01, item 10: "with the THD of step 10 of `calculate_metrics`", of orders up to `top`
 unfoldable pub withMeasured : ℕ → State → List Float → State
@@ -107,18 +117,36 @@ withMeasured top s xs =
 unfoldable pub silenced : State → State
 silenced s = record { shape = s .shape; port = levelled (s .port) zero32 zero32 zero32; figures = zeroFigures; thd = zero32 }
 
--- ---- the Rust's `new_power_port`, of a state that `new` made: the voltage and current given, and what follows from them
+-- ---- 01, item 10, `new_power_port`: the readings that it sets on a signal that `new` made, in the Rust's order
 
-unfoldable pub asPort : State → Float → Float → Reading → State
-asPort s voltage current frequency =
+abbrev pub portRows : Float → Float → Reading → List Row
+portRows voltage current frequency =
+    -- the Rust's `instantaneous_power()`, of the voltage and current that are set first
     let power = mul binary32 voltage current in
-    record {
-      shape = s .shape;
-      port = put (put (put (put (put (put (put (put (s .port) at-voltage (number voltage)) at-current (number current)) at-frequency (reading frequency)) at-phase-angle (reading (Number zero32)))
-          at-active-power (number power)) at-apparent-power (reading (Number (abs power)))) at-power-factor (reading (Number one32))) at-displacement-pf (reading (Number one32));
-      figures = s .figures;
-      thd = s .thd;
-    }
+    -- the voltage and the current given
+    row at-voltage (number voltage) ∷
+    row at-current (number current) ∷
+    -- the frequency given, a number or absent
+    row at-frequency (reading frequency) ∷
+    -- `Some(0.0)`
+    row at-phase-angle (reading (Number zero32)) ∷
+    -- the power, with its sign
+    row at-active-power (number power) ∷
+    -- its size, `fabsf`
+    row at-apparent-power (reading (Number (abs power))) ∷
+    -- `Some(1.0)`, both
+    row at-power-factor (reading (Number one32)) ∷
+    row at-displacement-pf (reading (Number one32)) ∷
+    []
+
+-- nothing but the port changes
+unfoldable pub asPort : State → Float → Float → Reading → State
+asPort s voltage current frequency = record {
+  shape = s .shape;
+  port = puts (s .port) (portRows voltage current frequency);
+  figures = s .figures;
+  thd = s .thd;
+}
 
 -- 01, "`get_metrics` gives the 19 figures and THD"
 abbrev pub metricsOf : State → Metrics
