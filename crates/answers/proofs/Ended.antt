@@ -25,3 +25,15 @@ module _ {A : Type 0} (o : Outcome) (done refused : A) (d : ℕ) (number : d ≡
 
   pub if-done : d ≡ 0 → ifDone o done refused ≡ done
   if-done e = done-is-zero o done refused ∙ ap (λ (b : Bool). cond b done refused) (eq-eqb (numberOf o) 0 (sym number ∙ e))
+
+-- what holds of both holds of whichever it is
+pub if-either : {A : Type 0} (P : A → Type 0) (o : Outcome) (done refused : A) → P done → P refused → P (ifDone o done refused)
+unfolding ifDone
+if-either P Done done refused d r = d
+if-either P LengthsDiffer done refused d r = r
+if-either P OutputShort done refused d r = r
+if-either P TooLong done refused d r = r
+if-either P OffGrid done refused d r = r
+if-either P WrongForm done refused d r = r
+if-either P WrongSum done refused d r = r
+if-either P WrongSequence done refused d r = r

@@ -4,11 +4,10 @@ use mathlib.Core.Path.{_≡_, refl, _∙_, ap}
 use mathlib.Core.Bool.{Bool, true, false, cond}
 use mathlib.Core.List.{List}
 use Prim.Native.Nat.{ℕ}
-use lib.Dec.{eqb}
 use lib.Ieee.{Float}
 use lib.ListN.{length}
-use Rattle.answers.specs.Numbers.{numberOf, tooLong}
-use Rattle.answers.proofs.Ended.{done-is-zero}
+use Rattle.answers.specs.Numbers.{tooLong}
+use Rattle.answers.proofs.Ended.{if-either}
 use Rattle.answers.specs.Written.{written}
 use Rattle.answers.specs.declared.Outcome.the-variants.{Done, TooLong}
 use Rattle.laws.specs.Literals.{zero32}
@@ -34,11 +33,7 @@ generated-length s xs = go (tooLong (length xs))
 
 judged-length : (s : State) (xs : List Float) (done : Left) → length (done .places) ≡ length xs → length (unlessRefused s xs done .places) ≡ length xs
 unfolding unlessRefused
-judged-length s xs done e = rw done-is-zero (go (eqb (numberOf (outcomeOf (length xs) false)) 0))
-  where
-    go : (b : Bool) → length (cond b done (left (answer (outcomeOf (length xs) false) s) xs) .places) ≡ length xs
-    go true = e
-    go false = refl
+judged-length s xs done e = if-either (λ (l : Left). length (l .places) ≡ length xs) (outcomeOf (length xs) false) done _ e refl
 
 remade-length : (top : ℕ) (earlier next : State) (xs : List Float) → length (remade top earlier next xs .places) ≡ length xs
 unfolding remade made

@@ -2,4 +2,5 @@
 mod Whole
 mod Ends
 pub mod Sequence
+pub mod SequencePort
 pub mod Shown

@@ -10,11 +10,10 @@ use lib.Ieee.{Float, lt}
 use Rattle.laws.specs.Filled.{filled}
 use Rattle.laws.specs.Literals.{zero32, tiny32}
 use Rattle.laws.proofs.Filling.{filled-length}
-use Rattle.answers.specs.Numbers.{ifDone, tooLong}
+use Rattle.answers.specs.Numbers.{ifDone}
 use Rattle.answers.specs.declared.Outcome.the-variants.{Done}
 use Rattle.generator.specs.declared.Shape.{Shape}
 use Rattle.generator.specs.Sample.{sampleAt, generated}
-use Rattle.spectrum.specs.Grid.{onGrid}
 use Rattle.spectrum.specs.Bin.{magnitudeOf}
 use Rattle.spectrum.specs.Spectrum.{outcomeOf}
 use Rattle.figures.specs.Figures.{figuresOf, answerOf}
@@ -22,28 +21,24 @@ use Rattle.distortion.specs.Thd.{fundamentalBin, usable, thdOf, thdAt, thdFrom}
 use Rattle.signal.specs.declared.State.{State}
 use Rattle.signal.specs.State.{withPhase, withDuty, withMeasured, silenced}
 use Rattle.signal.specs.Calls.{Left, left, answer, unlessRefused, made, remade, resetOf}
-use Rattle.signal.specs.Sequence.{Setting, phase, duty, Later, setting, reset, next, run, shaped, shapes}
-
--- a length that is not refused
-abbrev pub Taken : List Float → Type 0
-Taken xs = (tooLong (length xs) ≡ false) × (onGrid (length xs) ≡ true)
+use Rattle.signal.specs.Sequence.{Setting, phase, duty, Later, setting, reset, next, run, shaped, shapes, Taken}
 
 taken-as : (xs ys : List Float) → length ys ≡ length xs → Taken xs → Taken ys
 taken-as xs ys e h = (rw e (h .0), rw e (h .1))
 
-abbrev stateOf : Left → State
+abbrev pub stateOf : Left → State
 stateOf l = l .answer .state
 
-abbrev shapeIn : Left → Shape
+abbrev pub shapeIn : Left → Shape
 shapeIn l = l .answer .state .shape
 
 -- ---- one call on a length that is taken
 
-judged-taken : (s : State) (xs : List Float) (done : Left) → Taken xs → unlessRefused s xs done ≡ done
+pub judged-taken : (s : State) (xs : List Float) (done : Left) → Taken xs → unlessRefused s xs done ≡ done
 unfolding unlessRefused outcomeOf ifDone
 judged-taken s xs done h = rw (h .0, h .1)
 
-abbrev withSetting : State → Setting → State
+abbrev pub withSetting : State → Setting → State
 withSetting s (phase p) = withPhase s p
 withSetting s (duty d) = withDuty s d
 
@@ -52,12 +47,12 @@ unfolding withPhase withDuty
 with-shape s (phase p) = refl
 with-shape s (duty d) = refl
 
-next-set : (top : ℕ) (l : Left) (c : Setting) → Taken (l .places) → next top l (setting c) ≡ made top (withSetting (stateOf l) c) (l .places)
+pub next-set : (top : ℕ) (l : Left) (c : Setting) → Taken (l .places) → next top l (setting c) ≡ made top (withSetting (stateOf l) c) (l .places)
 unfolding remade
 next-set top l (phase p) h = judged-taken _ _ _ h
 next-set top l (duty d) h = judged-taken _ _ _ h
 
-next-reset : (top : ℕ) (l : Left) → Taken (l .places) → next top l reset ≡ left (answer Done (silenced (stateOf l))) (filled (λ (j : ℕ). zero32) (length (l .places)) (l .places))
+pub next-reset : (top : ℕ) (l : Left) → Taken (l .places) → next top l reset ≡ left (answer Done (silenced (stateOf l))) (filled (λ (j : ℕ). zero32) (length (l .places)) (l .places))
 unfolding resetOf
 next-reset top l h = judged-taken _ _ _ h
 
@@ -111,7 +106,7 @@ next-length : (top : ℕ) (l : Left) (c : Later) → Taken (l .places) → lengt
 next-length top l (setting c) h = ap length (set-places top l c h) ∙ generated-length (shaped (shapeIn l) c) (l .places) h
 next-length top l reset h = ap (λ (m : Left). length (m .places)) (next-reset top l h) ∙ filled-length (λ (j : ℕ). zero32) (length (l .places)) (l .places)
 
-next-taken : (top : ℕ) (l : Left) (c : Later) → Taken (l .places) → Taken (next top l c .places)
+pub next-taken : (top : ℕ) (l : Left) (c : Later) → Taken (l .places) → Taken (next top l c .places)
 next-taken top l c h = taken-as (l .places) (next top l c .places) (next-length top l c h) h
 
 pub run-length : (top : ℕ) (l : Left) (cs : List Later) → Taken (l .places) → length (run top l cs .places) ≡ length (l .places)
@@ -124,7 +119,7 @@ run-shape top l (setting c ∷ cs) h = run-shape top (next top l (setting c)) cs
 run-shape top l (reset ∷ cs) h = run-shape top (next top l reset) cs (next-taken top l reset h) ∙ ap (λ (s : Shape). shapes s cs) (reset-shape top l h)
 
 module _ (top : ℕ) (l : Left) (cs : List Later) (h : Taken (l .places)) where
-  run-taken : Taken (run top l cs .places)
+  pub run-taken : Taken (run top l cs .places)
   run-taken = taken-as (l .places) (run top l cs .places) (run-length top l cs h) h
 
   -- the samples of the last phase and the last duty cycle, as if nothing had been called before

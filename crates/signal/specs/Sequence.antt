@@ -1,11 +1,23 @@
 -- Later calls, one after another, each on what the call before left behind. 01, 'How much a contract has to say', what must not pass: "a `Signal` right at
 -- `new` that only pretends at later settings (demand 2, call by call)". Definitions only.
 use Prim.Native.Nat.{ℕ}
+use mathlib.Core.Path.{_≡_}
+use mathlib.Core.Logic.{_⊎_}
+use mathlib.Core.Bool.{true, false}
 use mathlib.Core.List.{List, [], _∷_}
+use lib.ListN.{length}
 use lib.Ieee.{Float}
+use Rattle.answers.specs.Numbers.{tooLong}
+use Rattle.laws.specs.Literals.{zero32}
 use Rattle.generator.specs.declared.Shape.{Shape}
 use Rattle.generator.specs.Sample.{shapeOf}
-use Rattle.signal.specs.State.{clamped}
+use Rattle.spectrum.specs.Grid.{onGrid}
+use Rattle.port.specs.declared.Port.{Port}
+use Rattle.port.specs.declared.Reading.the-variants.{Number}
+use Rattle.port.specs.Fields.{cells, cellAt, at-voltage, at-voltage-thd, at-voltage-crest-factor}
+use Rattle.figures.specs.declared.TimeFigures.{TimeFigures}
+use Rattle.signal.specs.declared.State.{State}
+use Rattle.signal.specs.State.{clamped, zeroFigures, voltageOf}
 use Rattle.signal.specs.Calls.{Left, phaseSet, dutySet, resetOf}
 
 -- `set_phase` and `set_duty_cycle`
@@ -38,3 +50,41 @@ abbrev pub shapes : Shape → List Later → Shape
 shapes s [] = s
 shapes s (setting c ∷ cs) = shapes (shaped s c) cs
 shapes s (reset ∷ cs) = shapes s cs
+
+-- ---- what is claimed of such calls, besides the shape, the samples, the figures and THD; each law is in `proofs/SequencePort.antt`
+
+-- 01, rows 3 and 4: a length that is taken, and one that is refused
+abbrev pub Taken : List Float → Type 0
+Taken xs = (tooLong (length xs) ≡ false) × (onGrid (length xs) ≡ true)
+
+abbrev pub Refused : List Float → Type 0
+Refused xs = (tooLong (length xs) ≡ true) ⊎ (onGrid (length xs) ≡ false)
+
+-- the three readings that follow a measurement show these figures of this wave, and this THD (`readings-after`)
+pub record Shows (shape : Shape) (figures : TimeFigures) (thd : Float) (p : Port) : Type 0 where
+  pub level : p .voltage ≡ voltageOf (shape .wave) figures
+  pub crest : p .«voltage_crest_factor» .reading ≡ Number (figures .«crest_factor»)
+  pub distortion : p .«voltage_thd» .reading ≡ Number thd
+
+-- those that the state itself has (`readings-new`, `readings-follow`)
+abbrev pub ShowsOwn : State → Type 0
+ShowsOwn s = Shows (s .shape) (s .figures) (s .thd) (s .port)
+
+-- the other 23 fields of the port are as they were (`others-stay`)
+abbrev pub OthersStay : Port → Port → Type 0
+OthersStay before after =
+    (i : ℕ) → (i ≡ at-voltage → ⊥) → (i ≡ at-voltage-thd → ⊥) → (i ≡ at-voltage-crest-factor → ⊥) → cellAt (cells after) i ≡ cellAt (cells before) i
+
+-- what a reset leaves in the state: this shape, and zero in all that is measured and in the readings that follow it (`reset-state`)
+pub record Quiet (shape : Shape) (s : State) : Type 0 where
+  pub kept : s .shape ≡ shape
+  pub figures : s .figures ≡ zeroFigures
+  pub thd : s .thd ≡ zero32
+  pub level : s .port .voltage ≡ zero32
+  pub crest : s .port .«voltage_crest_factor» .reading ≡ Number zero32
+  pub distortion : s .port .«voltage_thd» .reading ≡ Number zero32
+
+-- 01, "Nothing but 0 writes to what was lent", and "a signal state .. handed in comes back unchanged" (`refused-run`)
+pub record Unmoved (before after : Left) : Type 0 where
+  pub state : after .answer .state ≡ before .answer .state
+  pub samples : after .places ≡ before .places

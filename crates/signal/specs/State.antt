@@ -97,14 +97,16 @@ withDuty s d = withShape s (shapeOf (s .shape .wave) (s .shape .amplitude) (s .s
 unfoldable pub voltageOf : Wave → TimeFigures → Float
 voltageOf wave f = ofKind wave (f .average) (f .«dc_rms»)
 
--- the Rust's order; the other 23 fields stay
-unfoldable pub levelled : Port → Float → Float → Float → Port
-levelled p voltage crest thd =
-    puts p
-    (row at-voltage (number voltage) ∷
+-- in the Rust's order
+abbrev pub levelRows : Float → Float → Float → List Row
+levelRows voltage crest thd =
+    row at-voltage (number voltage) ∷
     row at-voltage-crest-factor (reading (Number crest)) ∷
     row at-voltage-thd (reading (Number thd)) ∷
-    [])
+    []
+
+unfoldable pub levelled : Port → Float → Float → Float → Port
+levelled p voltage crest thd = puts p (levelRows voltage crest thd)
 
 -- 01, item 10: "with the THD of step 10 of `calculate_metrics`", of orders up to `top`
 unfoldable pub withMeasured : ℕ → State → List Float → State
