@@ -1,4 +1,4 @@
--- An f64 as the nearest f32: within one part in 2 ^ 24 where the f32 is normal, and a zero of a zero. Assumes nothing.
+-- An f64 as the nearest f32: within one part in 2 ^ 24 where its size lies between 2 ^ -126 and 2 ^ 127, and a zero of a zero. (NearestValue.antt has the whole normal range.) Assumes nothing.
 use mathlib.Core.Path.{_≡_, sym, ap, _∙_, subst}
 use mathlib.Core.Bool.{Bool}
 use Prim.Native.Nat.{ℕ, _+_, _-_, _*_, _^_, _≤_, _<_}
@@ -11,13 +11,13 @@ use Rattle.laws.proofs.Close.{Close, round-close}
 use Rattle.laws.proofs.Size.{normal, Signed, SizeOf}
 use Rattle.laws.proofs.Zero.{Null, null-round}
 
-narrow-is : (x : Float) (s : Bool) → Signed x s → narrow x ≡ round binary32 s (num x) (den x)
+pub narrow-is : (x : Float) (s : Bool) → Signed x s → narrow x ≡ round binary32 s (num x) (den x)
 unfolding narrow
 narrow-is nan s h = absurd h
 narrow-is (inf t) s h = absurd h
 narrow-is (fin t m e) s h = ap (λ (b : Bool). round binary32 b (m * up e) (down e)) (h .0)
 
--- x lies between 1 / A and B in size, and those between the least normal f32 and half of the greatest
+-- x lies between 1 / A and B in size, and those between the least normal f32, 2 ^ -126, and 2 ^ 127
 pub narrow-close : (x : Float) (s : Bool) (A B : ℕ) → Signed x s → SizeOf x A B → A ≤ 2 ^ (emax binary32 - 1) → B < 2 ^ emax binary32
     → Close (narrow x) s (num x) (den x) (2 ^ prec binary32 - 1) (2 ^ prec binary32 + 1) (2 ^ prec binary32)
 narrow-close x s A B h z a b =

@@ -1,57 +1,29 @@
--- `root` is correctly rounded: of every value of the format above zero it is the value nearest to the exact root (`root-nearest`). Assumes nothing.
+-- `root` is correctly rounded: at every value of the format above zero it is the value nearest to the exact root (`root-nearest`). Assumes nothing.
 use mathlib.Core.Path.{_≡_, sym, ap, ap₂, _∙_, subst}
-use mathlib.Core.Bool.{Bool, true, false, cond, _&&_}
-use Prim.Native.Nat.{ℕ, zero, suc, _+_, _-_, _*_, _/_, _%_, _^_, _≤_, _<_, compare}
-use native.Mathlib.Nat.{le-trans, le-of-eq, le-of-lt, lt-of-lt-of-le, lt-of-le-of-lt, lt-of-not-le, lt-irrefl, mul-comm, mul-assoc, mul-left-comm, mul-right-comm, mul-mul-mul-comm, mul-le-mul, mul-le-mul-left, mul-le-mul-right, mul-lt-mul-of-pos-right, lt-of-mul-lt-mul-right, le-of-mul-le-mul-right, mul-pos, add-mul, one-mul, zero-mul, mul-one, le-div-iff-mul-le}
+use mathlib.Core.Bool.{Bool, true, false, cond}
+use Prim.Native.Nat.{ℕ, suc, _+_, _-_, _*_, _/_, _%_, _^_, _≤_, _<_, compare}
+use native.Mathlib.Nat.{le-trans, le-of-eq, le-of-lt, lt-of-not-le, mul-comm, mul-assoc, mul-left-comm, mul-mul-mul-comm, mul-le-mul, mul-le-mul-right, mul-lt-mul-of-pos-right, le-of-mul-le-mul-right, mul-pos, add-mul, le-div-iff-mul-le}
 use native.Mathlib.Decide.{decLe}
 use native.Mathlib.Omega.{arith}
-use lib.Dec.{T, ltb, leb, eqb, ltb→lt, leb→le, lit≤}
-use lib.Pow.{pow-add, pow-pos, pow-mono}
-use lib.IntN.{ℤ, pos, negsuc}
-use lib.Ieee.{Float, nan, inf, fin, Format, prec, emax, low, up, down, fits}
-use lib.Ieee.Fits.{two, two-le-pos, and-l, and-r}
+use lib.Dec.{eqb, lit≤}
+use lib.Pow.{pow-pos}
+use lib.Ieee.{Format, prec, low}
+use lib.Ieee.Fits.{two, two-le-pos}
 use lib.Ieee.Nearest.{nearest-ge}
 use lib.Ieee.Order.{drop, kept}
 use lib.Ieee.Positive.{num, den, first-pos}
 use Rattle.laws.proofs.Near.{unit-le}
-use Rattle.laws.proofs.Close.{cross}
-use Rattle.laws.proofs.Size.{Signed}
+use Rattle.laws.proofs.Close.{own, cross}
 use Rattle.number.specs.Number.{root}
-use Rattle.number.specs.Nearest.{squared, NearestRoot}
+use Rattle.number.specs.Nearest.{squared, RootIsNearest}
+use Rattle.number.proofs.Spaced.{spaced, multiple, step-up, digits-of, first-in-units, second-in-units, in-order, reversed}
 use Rattle.number.proofs.WholeRoot.{whole-root-is}
 use Rattle.number.proofs.RootBits.{sticky, Num}
-use Rattle.number.proofs.Rooting.{n, r, g, h, P, four, normal, near, fine, from-above, covered, root-units, units-of, exponent}
+use Rattle.number.proofs.RootCases.{root-fits}
+use Rattle.number.proofs.Rooting.{n, r, g, h, P, four, normal, near, fine, from-above, covered, root-units, units-of}
 
 squares-le : {a b : ℕ} → a ≤ b → a * a ≤ b * b
 squares-le l = mul-le-mul l l
-
--- ---- The values of a format are so far apart: one of p digits, m * 2 ^ j, that reaches 2 ^ (p - 1) * 2 ^ k is a multiple of 2 ^ k
-spaced : (p m j k : ℕ) → 1 ≤ p → m < 2 ^ p → 2 ^ (p - 1) * 2 ^ k ≤ m * 2 ^ j → k ≤ j
-spaced p m j k one small reach = elim (decLe k j) [
-  | yes l ↦ l
-  | no l ↦
-      let b : suc j ≤ k = omega arith in
-      absurd (lt-irrefl (2 ^ (p - 1) * 2 ^ k) (lt-of-le-of-lt reach (lt-of-lt-of-le (mul-lt-mul-of-pos-right small (pow-pos j)) (le-trans (le-of-eq same) (mul-le-mul-left (2 ^ (p - 1)) (pow-mono b))))))
-]
-  where
-    back : (p : ℕ) → 1 ≤ p → p + j ≡ p - 1 + suc j
-    back p h = omega arith
-
-    same : 2 ^ p * 2 ^ j ≡ 2 ^ (p - 1) * 2 ^ suc j
-    same = sym (pow-add 2 p j) ∙ ap (λ (x : ℕ). 2 ^ x) (back p one) ∙ pow-add 2 (p - 1) (suc j)
-
--- so it is a whole step from any other multiple
-multiple : (m j k : ℕ) → k ≤ j → m * 2 ^ j ≡ m * 2 ^ (j - k) * 2 ^ k
-multiple m j k l = ap (λ (x : ℕ). m * 2 ^ x) (back j k l) ∙ ap (λ (x : ℕ). m * x) (pow-add 2 (j - k) k) ∙ sym (mul-assoc m (2 ^ (j - k)) (2 ^ k))
-  where
-    back : (j k : ℕ) → k ≤ j → j ≡ j - k + k
-    back j k h = omega arith
-
-step-up : (q b u : ℕ) → q * u < b * u → q * u + u ≤ b * u
-step-up q b u l = le-trans (le-of-eq (sym (add-mul q 1 u ∙ ap (λ (x : ℕ). q * u + x) (one-mul u)))) (mul-le-mul-right u (next q b (lt-of-mul-lt-mul-right u l)))
-  where
-    next : (q b : ℕ) → q < b → q + 1 ≤ b
-    next q b h = omega arith
 
 -- ---- In units of the smallest value: x is a of them, its root g, and v is m * 2 ^ j of them
 module _ (f : Format) (a : ℕ) (A : 0 < a) (m j : ℕ) (small : m < 2 ^ prec f) where
@@ -142,61 +114,13 @@ module _ (f : Format) (a : ℕ) (A : 0 < a) (m j : ℕ) (small : m < 2 ^ prec f)
               plus : (x y u : ℕ) → x ≤ y → x + u ≤ y + u
               plus x y u z = omega arith
 
--- ---- A value of the format by its digits: m * 2 ^ j of the smallest values
-record Digits (f : Format) (v : Float) : Type 0 where
-  pub m : ℕ
-  pub j : ℕ
-  pub small : m < 2 ^ prec f
-  pub is : num v * 2 ^ low f ≡ m * 2 ^ j * den v
-
--- what `fits` says of the digits and of the fraction's denominator
-few-digits : (f : Format) (m : ℕ) (e : ℤ) → T (eqb (m % 2) 1 && ltb m (2 ^ prec f) && leb (down e) (2 ^ low f) && ltb (m * up e) (2 ^ suc (emax f) * down e)) → m < 2 ^ prec f
-few-digits f m e t =
-    let a = eqb (m % 2) 1 in
-    let b = ltb m (2 ^ prec f) in
-    let c = leb (down e) (2 ^ low f) in
-    let d = ltb (m * up e) (2 ^ suc (emax f) * down e) in
-    ltb→lt m (2 ^ prec f) (and-r a b (and-l (a && b) c (and-l (a && b && c) d t)))
-
-fine-enough : (f : Format) (m : ℕ) (e : ℤ) → T (eqb (m % 2) 1 && ltb m (2 ^ prec f) && leb (down e) (2 ^ low f) && ltb (m * up e) (2 ^ suc (emax f) * down e)) → down e ≤ 2 ^ low f
-fine-enough f m e t =
-    let a = eqb (m % 2) 1 in
-    let b = ltb m (2 ^ prec f) in
-    let c = leb (down e) (2 ^ low f) in
-    let d = ltb (m * up e) (2 ^ suc (emax f) * down e) in
-    leb→le (down e) (2 ^ low f) (and-r (a && b) c (and-l (a && b && c) d t))
-
-digits-of : (f : Format) (v : Float) → T (fits f v) → Signed v false → Digits f v
-unfolding fits
-digits-of f nan t s = absurd s
-digits-of f (inf u) t s = absurd s
-digits-of f (fin u zero e) t s =
-    record { m = 0; j = 0; small = pow-pos (prec f); is = ap (λ (x : ℕ). x * 2 ^ low f) (zero-mul (up e)) ∙ zero-mul (2 ^ low f) ∙ sym (ap (λ (x : ℕ). x * down e) (zero-mul (2 ^ 0)) ∙ zero-mul (down e)) }
-digits-of f (fin u (suc m) (pos k)) t s =
-    record { m = suc m; j = k + low f; small = few-digits f (suc m) (pos k) t; is = mul-assoc (suc m) (2 ^ k) (2 ^ low f) ∙ ap (λ (x : ℕ). suc m * x) (sym (pow-add 2 k (low f))) ∙ sym (mul-one (suc m * 2 ^ (k + low f))) }
-digits-of f (fin u (suc m) (negsuc k)) t s =
-    let l : suc k ≤ low f = exponent (suc k) (low f) (fine-enough f (suc m) (negsuc k) t) in
-    record { m = suc m; j = low f - suc k; small = few-digits f (suc m) (negsuc k) t; is = ap (λ (x : ℕ). x * 2 ^ low f) (mul-one (suc m)) ∙ multiple (suc m) (low f) (suc k) l }
-
 -- ---- From units to fractions
 module _ (nx dx ny dy nv dv a g b L : ℕ) (ex : nx * L ≡ a * dx) (ey : ny * L ≡ g * dy) (ev : nv * L ≡ b * dv) where
-  first : ny * dv * L ≡ g * (dy * dv)
-  first = mul-right-comm ny dv L ∙ ap (λ (x : ℕ). x * dv) ey ∙ mul-assoc g dy dv
-
-  second : nv * dy * L ≡ b * (dy * dv)
-  second = mul-right-comm nv dy L ∙ ap (λ (x : ℕ). x * dy) ev ∙ mul-assoc b dv dy ∙ ap (λ (x : ℕ). b * x) (mul-comm dv dy)
-
-  in-order : 0 < L → ny * dv < nv * dy → g < b
-  in-order p l = lt-of-mul-lt-mul-right (dy * dv) (lt-of-le-of-lt (le-of-eq (sym first)) (lt-of-lt-of-le (mul-lt-mul-of-pos-right l p) (le-of-eq second)))
-
-  reversed : 0 < L → nv * dy < ny * dv → b < g
-  reversed p l = lt-of-mul-lt-mul-right (dy * dv) (lt-of-le-of-lt (le-of-eq (sym second)) (lt-of-lt-of-le (mul-lt-mul-of-pos-right l p) (le-of-eq first)))
-
   squared-sum : squared (ny * dv + nv * dy) * dx * (L * L) ≡ squared (g + b) * (squared (dy * dv) * dx)
   squared-sum =
       let S = ny * dv + nv * dy in
       let D = dy * dv in
-      let e : S * L ≡ (g + b) * D = add-mul (ny * dv) (nv * dy) L ∙ ap₂ (λ (x y : ℕ). x + y) first second ∙ sym (add-mul g b D) in
+      let e : S * L ≡ (g + b) * D = add-mul (ny * dv) (nv * dy) L ∙ ap₂ (λ (x y : ℕ). x + y) (first-in-units ny dy nv dv g b L ey ev) (second-in-units ny dy nv dv g b L ey ev) ∙ sym (add-mul g b D) in
       let c : S * S * dx * (L * L) ≡ S * L * (S * L) * dx = simp (mul-assoc, mul-comm, mul-left-comm) in
       let d : (g + b) * D * ((g + b) * D) * dx ≡ (g + b) * (g + b) * (D * D * dx) = ap (λ (x : ℕ). x * dx) (mul-mul-mul-comm (g + b) D (g + b) D) ∙ mul-assoc ((g + b) * (g + b)) (D * D) dx in
       c ∙ ap (λ (x : ℕ). x * x * dx) e ∙ d
@@ -215,7 +139,7 @@ module _ (nx dx ny dy nv dv a g b L : ℕ) (ex : nx * L ≡ a * dx) (ey : ny * L
   at-least p l = le-of-mul-le-mul-right (le-trans (le-of-eq squared-sum) (le-trans (mul-le-mul-right (squared (dy * dv) * dx) l) (le-of-eq (sym squared-x)))) (mul-pos p p)
 
 -- ---- the theorem
-pub root-nearest : (f : Format) (x : Float) → T (fits f x) → Signed x false → 0 < num x → NearestRoot f x (root f x)
+pub root-nearest : RootIsNearest
 root-nearest f x t s p =
     let u = units-of f x false t s p in
     let a = u .count in
@@ -225,15 +149,18 @@ root-nearest f x t s p =
     let A : 0 < a = first-pos a (den x) (subst (λ (k : ℕ). 0 < k) ex (mul-pos p o)) in
     let y = root f x in
     let G = g f a A in
-    let ey = cross y false G L (root-units f a A x (u .is) (u .bound)) in
+    let hy = root-units f a A x (u .is) (u .bound) in
+    let ey = cross y false G L hy in
     let e : a * 2 ^ suc (suc (low f)) ≡ a * (4 * L) = ap (λ (k : ℕ). a * k) (four f a A) in
     record {
+      value = root-fits f x t;
+      sign = own y false G L hy;
       above = λ v tv sv l.
-          let d = digits-of f v tv sv in
+          let d = digits-of f v false tv sv in
           at-most (num x) (den x) (num y) (den y) (num v) (den v) a G (d .m * 2 ^ d .j) L ex ey (d .is) o
-          (le-trans (le-of-eq (sym e)) (beyond f a A (d .m) (d .j) (d .small) (in-order (num x) (den x) (num y) (den y) (num v) (den v) a G (d .m * 2 ^ d .j) L ex ey (d .is) o l)));
+          (le-trans (le-of-eq (sym e)) (beyond f a A (d .m) (d .j) (d .small) (in-order (num y) (den y) (num v) (den v) G (d .m * 2 ^ d .j) L ey (d .is) o l)));
       below = λ v tv sv l.
-          let d = digits-of f v tv sv in
+          let d = digits-of f v false tv sv in
           at-least (num x) (den x) (num y) (den y) (num v) (den v) a G (d .m * 2 ^ d .j) L ex ey (d .is) o
-          (le-trans (short f a A (d .m) (d .j) (d .small) (reversed (num x) (den x) (num y) (den y) (num v) (den v) a G (d .m * 2 ^ d .j) L ex ey (d .is) o l)) (le-of-eq e));
+          (le-trans (short f a A (d .m) (d .j) (d .small) (reversed (num y) (den y) (num v) (den v) G (d .m * 2 ^ d .j) L ey (d .is) o l)) (le-of-eq e));
     }
