@@ -1,5 +1,4 @@
 pub mod Decimal
 pub mod Stored
 pub mod Texts
-pub mod Codes
 pub mod Whole
