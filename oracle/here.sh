@@ -1,6 +1,7 @@
 #!/usr/bin/env bash
-# Builds libtilljingle.a for a machine that is not x86-64, for measuring alone: the kit's own compiler is handed the same module, at the same level,
-# for this machine's processor. Leaves here/libtilljingle.a. What the firmware links, and what compare.sh runs, stays the x86-64 library.
+# Builds libtilljingle.a for a machine that is not x86-64, for measuring and for the second comparison (here=yes): the kit's own compiler is handed the same
+# module, at the same level, for this machine's processor. Leaves here/libtilljingle.a. What the firmware links, and what compare.sh runs by itself, stays the
+# x86-64 library.
 set -euo pipefail
 cd "$(dirname "$0")"
 machine=$(uname -m)

@@ -5,7 +5,7 @@ usage: retarget.py CLANG TRIPLE ARGUMENT..   with the arguments of one compilati
 The exported functions follow the C calling convention of x86-64; where the other processor's differs they are changed to it:
 a large struct by value is a pointer to the caller's copy, a small argument is not widened by the caller, a large struct comes
 back through a pointer in a register of its own, and a struct of an integer and a float in two integer registers. Only for
-measuring: nothing that is shipped goes through here."""
+measuring and comparing (here.sh): nothing that is shipped goes through here."""
 import re
 import subprocess
 import sys
