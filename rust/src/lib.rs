@@ -10,7 +10,8 @@ mod figures;
 mod number;
 mod port;
 mod quality;
-mod raw;
+#[doc(hidden)]
+pub mod raw;
 mod samples;
 mod signal;
 

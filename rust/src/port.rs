@@ -6,8 +6,10 @@ use crate::raw;
 #[derive(Clone, Copy, Debug, Default, PartialEq)]
 #[repr(C)]
 pub struct Reading {
-    present: bool,
-    value: f32,
+    #[doc(hidden)]
+    pub present: bool,
+    #[doc(hidden)]
+    pub value: f32,
 }
 
 impl From<Option<f32>> for Reading {

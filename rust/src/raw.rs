@@ -1,25 +1,29 @@
-//! include/tilljingle.h, declaration by declaration, but for the harmonics' calls that pass a port.
+//! include/tilljingle.h, declaration by declaration; the records that the safe calls hand on stand with those. The comparisons in oracle/ make these calls too.
 
 use crate::{Port, Power, Reading, Settings, TimeFigures};
 
+#[derive(Clone, Copy, Debug)]
 #[repr(C)]
 pub struct Figure {
     pub code: u8,
     pub value: f32,
 }
 
+#[derive(Clone, Copy, Debug)]
 #[repr(C)]
 pub struct PowerAnswer {
     pub code: u8,
     pub power: Power,
 }
 
+#[derive(Clone, Copy, Debug)]
 #[repr(C)]
 pub struct TimeAnswer {
     pub code: u8,
     pub figures: TimeFigures,
 }
 
+#[derive(Clone, Copy, Debug)]
 #[repr(C)]
 pub struct Quotient {
     pub code: u8,
@@ -27,12 +31,14 @@ pub struct Quotient {
     pub ratio: f64,
 }
 
+#[derive(Clone, Copy, Debug)]
 #[repr(C)]
 pub struct SignalAnswer {
     pub code: u8,
     pub signal: Settings,
 }
 
+#[derive(Clone, Copy, Debug, PartialEq, Eq, Hash)]
 #[repr(C)]
 pub struct Read {
     pub code: u8,
@@ -40,6 +46,7 @@ pub struct Read {
     pub pairs: usize,
 }
 
+#[derive(Clone, Copy, Debug, PartialEq)]
 #[repr(C)]
 pub struct Written {
     pub code: u8,
@@ -107,6 +114,10 @@ extern "C" {
 
     pub fn tj_instantaneous_power(port: Port) -> f32;
     pub fn tj_reset_power_params(port: Port) -> Port;
+    pub fn tj_voltage_harmonic(port: Port, n: u8) -> Reading;
+    pub fn tj_current_harmonic(port: Port, n: u8) -> Reading;
+    pub fn tj_set_voltage_harmonic(port: Port, n: u8, value: Reading) -> Port;
+    pub fn tj_set_current_harmonic(port: Port, n: u8, value: Reading) -> Port;
     pub fn tj_harmonic(harmonics: *const Reading, n: u8) -> Reading;
     pub fn tj_set_harmonic(harmonics: *mut Reading, n: u8, value: Reading);
 

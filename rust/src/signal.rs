@@ -7,7 +7,8 @@ use crate::{answered, raw, Port, Reading, Refusal, TimeFigures, Wave};
 #[derive(Clone, Copy, Debug, Default, PartialEq)]
 #[repr(C)]
 pub struct Settings {
-    wave: u8,
+    #[doc(hidden)]
+    pub wave: u8,
     pub amplitude: f32,
     pub phase: f32,
     pub frequency: f32,
