@@ -1,25 +1,13 @@
 //! Capture lines, against the reader and the writer of lines.rs.
 
 use crate::common::{black_box, Check, Log, Random, Table};
-use crate::lines::{self, Pair, Read, Written, LONGEST};
+use crate::lines::{self, Pair, LONGEST};
 use crate::mutate::{capture, codes, grouped, mutate, rooms, short_captures, small_capture};
 use crate::wall::{fenced, lent, Wall};
+use tilljingle::raw::{tj_read_capture, tj_write_capture, Read, Written};
 
 /// Mutated captures of a full comparison.
 pub const ROUNDS: u64 = 2_000_000;
-
-extern "C" {
-    fn tj_read_capture(text: *const u8, n: usize, volts: *mut i16, nv: usize, amps: *mut i16, na: usize) -> Read;
-    fn tj_write_capture(
-        volts: *const i16,
-        nv: usize,
-        amps: *const i16,
-        na: usize,
-        first: u16,
-        text: *mut u8,
-        n: usize,
-    ) -> Written;
-}
 
 fn library_read(text: &[u8], volts: &mut [i16], amps: &mut [i16]) -> Read {
     unsafe {

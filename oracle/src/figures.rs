@@ -1,34 +1,61 @@
 //! The time figures, against `calculate_metrics`.
 
 use crate::common::{bits32, black_box, list32, Check, Kind, Log, Random, Table, KINDS};
-use crate::signal::{Signal, SignalMetrics, SignalType};
+use crate::generator::wave_of;
+use crate::signal::{Signal, SignalMetrics};
+use std::mem::transmute;
+use tilljingle::raw::{tj_calculate_time_figures, TimeAnswer};
+use tilljingle::TimeFigures;
 
 /// Random records of a full comparison.
 pub const ROUNDS: u64 = 400_000;
 
-/// The 19 figures in the order of include/tilljingle.h.
-#[repr(C)]
-#[derive(Debug, Clone, Copy)]
-struct TimeFigures {
-    values: [f32; 19],
+/// The 19 figures that both records have, by name; the other fields are 0.
+macro_rules! figures_of {
+    ($from:expr, $to:ident, $($zero:ident)*) => {
+        $to {
+            peak_to_peak: $from.peak_to_peak,
+            max: $from.max,
+            min: $from.min,
+            positive_peak: $from.positive_peak,
+            negative_peak: $from.negative_peak,
+            average: $from.average,
+            dc_rms: $from.dc_rms,
+            ac_rms: $from.ac_rms,
+            duty_cycle_pos: $from.duty_cycle_pos,
+            duty_cycle_neg: $from.duty_cycle_neg,
+            rise_time: $from.rise_time,
+            fall_time: $from.fall_time,
+            crest_factor: $from.crest_factor,
+            frequency: $from.frequency,
+            period: $from.period,
+            form_factor: $from.form_factor,
+            overshoot: $from.overshoot,
+            undershoot: $from.undershoot,
+            slew_rate: $from.slew_rate,
+            $($zero: 0.0,)*
+        }
+    };
 }
 
-#[repr(C)]
-#[derive(Debug, Clone, Copy)]
-struct TimeAnswer {
-    code: u8,
-    figures: TimeFigures,
+pub fn figures_of(metrics: &SignalMetrics) -> TimeFigures {
+    figures_of!(metrics, TimeFigures,)
 }
 
-extern "C" {
-    fn tj_calculate_time_figures(
-        wave: u8,
-        amplitude: f32,
-        frequency: f32,
-        earlier: TimeFigures,
-        samples: *const f32,
-        n: usize,
-    ) -> TimeAnswer;
+pub fn metrics_of(figures: &TimeFigures) -> SignalMetrics {
+    figures_of!(figures, SignalMetrics, thd snr sinad enob sfdr)
+}
+
+/// The figures one after the other.
+pub fn list(figures: TimeFigures) -> [f32; 19] {
+    unsafe { transmute(figures) }
+}
+
+/// Figures that may be any.
+pub fn any_figures(random: &mut Random) -> TimeFigures {
+    let mut values = [0.0; 19];
+    random.fill(Kind::Mixed, &mut values);
+    unsafe { transmute(values) }
 }
 
 /// The most samples that are taken.
@@ -50,7 +77,7 @@ impl Record {
             self.wave,
             bits32(self.amplitude),
             bits32(self.frequency),
-            list32(&self.earlier.values),
+            list32(&list(self.earlier)),
             list32(&self.samples)
         )
     }
@@ -68,51 +95,33 @@ impl Record {
         }
     }
 
-    fn theirs(&self) -> [f32; 19] {
+    fn theirs(&self) -> TimeFigures {
         let mut samples = self.samples.clone();
-        let earlier = metrics(&self.earlier);
+        let earlier = metrics_of(&self.earlier);
         let mut signal = Signal::tail_over(
-            wave_type(self.wave),
+            wave_of(self.wave),
             self.amplitude,
             self.frequency,
             &earlier,
             &mut samples,
         );
         signal.tail_calculate();
-        signal.get_metrics().tail_time()
+        figures_of(&signal.get_metrics())
     }
 
     /// Every field, and the number of the answer. A refused record is to bring the earlier one.
     fn see(&self, log: &mut Log, check: Check) {
         let (code, expected) = if self.samples.len() > LONGEST {
-            (3, self.earlier.values)
+            (3, self.earlier)
         } else {
             (0, self.theirs())
         };
         let answer = self.ours();
-        log.see_all32(check, &answer.figures.values, &expected, || self.words());
+        log.see_all32(check, &list(answer.figures), &list(expected), || self.words());
         if answer.code != code {
             log.see(check, false, || format!("{}: code {}", self.words(), answer.code));
         }
     }
-}
-
-/// The Rust's wave of a number; numbers from 4 on are DC.
-fn wave_type(wave: u8) -> SignalType {
-    match wave {
-        1 => SignalType::PWM,
-        2 => SignalType::Triangular,
-        3 => SignalType::Sawtooth,
-        _ => SignalType::DC,
-    }
-}
-
-/// The earlier record with its 19 figures; the five of the spectrum are 0.
-fn metrics(figures: &TimeFigures) -> SignalMetrics {
-    let mut all = [0.0; 24];
-    all[..13].copy_from_slice(&figures.values[..13]);
-    all[14..20].copy_from_slice(&figures.values[13..]);
-    SignalMetrics::tail_from(&all)
 }
 
 /// How many forms `form` has beside the kinds of single samples.
@@ -177,8 +186,7 @@ fn random_record(random: &mut Random, round: u64) -> Record {
         Some(kind) => random.samples(*kind, n),
         None => form(random, which - KINDS.len() as u64, n, amplitude),
     };
-    let mut values = [0.0; 19];
-    random.fill(Kind::Mixed, &mut values);
+    let earlier = any_figures(random);
     Record {
         wave: if random.below(20) == 0 {
             random.bits() as u8
@@ -187,7 +195,7 @@ fn random_record(random: &mut Random, round: u64) -> Record {
         },
         amplitude,
         frequency: frequency(random, n),
-        earlier: TimeFigures { values },
+        earlier,
         samples,
     }
 }
@@ -203,7 +211,7 @@ fn short_capture(number: usize, length: u32) -> Vec<f32> {
 /// Every capture of up to five samples of the alphabet, for every wave.
 fn compare_short(log: &mut Log) {
     let check = log.check("tj_calculate_time_figures: every capture of up to 5 of -1, -0, 0, 1/2, 1, NaN, inf");
-    let earlier = TimeFigures { values: [7.0; 19] };
+    let earlier: TimeFigures = unsafe { transmute([7f32; 19]) };
     for length in 0..=5 {
         for number in 0..7usize.pow(length) {
             for (wave, amplitude, frequency) in [
@@ -251,11 +259,11 @@ pub fn bench(table: &mut Table) {
             wave,
             amplitude: 1.0,
             frequency: 0.0, // the Rust's spectrum is no part of it
-            earlier: TimeFigures { values: [0.0; 19] },
+            earlier: TimeFigures::default(),
             samples,
         };
         let mut samples = record.samples.clone();
-        let mut signal = Signal::tail_over(wave_type(wave), 1.0, 0.0, &metrics(&record.earlier), &mut samples);
+        let mut signal = Signal::tail_over(wave_of(wave), 1.0, 0.0, &metrics_of(&record.earlier), &mut samples);
         table.row(
             name,
             n,

@@ -2,24 +2,13 @@
 
 use crate::common::{all_same32, bits32, black_box, list32, Check, Kind, Log, Random, Table};
 use crate::signal::{Signal, SignalType};
+use tilljingle::raw::tj_generate_samples;
 
 /// Random shapes of a full comparison.
 pub const ROUNDS: u64 = 2_000_000;
 
 /// The most samples that are filled.
 const LONGEST: usize = 65536;
-
-extern "C" {
-    fn tj_generate_samples(
-        wave: u8,
-        amplitude: f32,
-        phase: f32,
-        frequency: f32,
-        duty_cycle: f32,
-        samples: *mut f32,
-        n: usize,
-    ) -> u8;
-}
 
 /// What a wave is made from.
 #[derive(Clone, Copy)]

@@ -1,18 +1,10 @@
 //! The number kit, against the hardware's instructions and libm.
 
 use crate::common::{bits32, bits64, black_box, edges32, edges64, same32, same64, Check, Log, Random, Table};
+use tilljingle::raw::{tj_abs32, tj_narrow, tj_round32, tj_sqrt32, tj_sqrt64, tj_sqrt64_narrowed};
 
 /// Random f64 of a full comparison; every f32 function sees each 97th pattern beside it.
 pub const ROUNDS: u64 = 24_000_000;
-
-extern "C" {
-    fn tj_narrow(x: f64) -> f32;
-    fn tj_sqrt64(x: f64) -> f64;
-    fn tj_sqrt64_narrowed(x: f64) -> f32;
-    fn tj_sqrt32(x: f32) -> f32;
-    fn tj_abs32(x: f32) -> f32;
-    fn tj_round32(x: f32) -> f32;
-}
 
 /// The checks of one f64.
 struct Wide {

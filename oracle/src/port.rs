@@ -2,6 +2,11 @@
 
 use crate::common::{black_box, same32, same64, Kind, Log, Random, Table};
 use crate::signal::Signal;
+use tilljingle::raw::{
+    tj_current_harmonic, tj_harmonic, tj_instantaneous_power, tj_reset_power_params, tj_set_current_harmonic,
+    tj_set_harmonic, tj_set_voltage_harmonic, tj_voltage_harmonic,
+};
+use tilljingle::{Port, Reading};
 
 /// Random sequences of a full comparison.
 pub const ROUNDS: u64 = 500_000;
@@ -9,159 +14,93 @@ pub const ROUNDS: u64 = 500_000;
 /// The most calls of a sequence.
 const CALLS: u64 = 20;
 
-/// A reading as it crosses the boundary; absent, it has the value 0.
-#[repr(C)]
-#[derive(Debug, Clone, Copy)]
-pub struct Reading {
-    pub present: bool,
-    pub value: f32,
-}
-
 pub const ABSENT: Reading = Reading {
     present: false,
     value: 0.0,
 };
 
-impl From<Option<f32>> for Reading {
-    fn from(number: Option<f32>) -> Reading {
-        number.map_or(ABSENT, |value| Reading { present: true, value })
+fn same_reading(a: Reading, b: Reading) -> bool {
+    a.present == b.present && same32(a.value, b.value)
+}
+
+/// What the Rust's getters give.
+pub fn port_of(signal: &Signal) -> Port {
+    let mut voltage_harmonics = [ABSENT; 16];
+    let mut current_harmonics = [ABSENT; 16];
+    for n in 0..16u8 {
+        voltage_harmonics[n as usize] = signal.voltage_harmonic(n).into();
+        current_harmonics[n as usize] = signal.current_harmonic(n).into();
+    }
+    Port {
+        voltage: signal.voltage(),
+        current: signal.current(),
+        frequency: signal.frequency().into(),
+        phase_angle: signal.phase_angle().into(),
+        active_power: signal.active_power(),
+        reactive_power: signal.reactive_power().into(),
+        apparent_power: signal.apparent_power().into(),
+        power_factor: signal.power_factor().into(),
+        displacement_pf: signal.displacement_pf().into(),
+        energy_imported: signal.energy_imported(),
+        energy_exported: signal.energy_exported(),
+        voltage_thd: signal.voltage_thd().into(),
+        current_thd: signal.current_thd().into(),
+        voltage_crest_factor: signal.voltage_crest_factor().into(),
+        current_crest_factor: signal.current_crest_factor().into(),
+        voltage_harmonics,
+        current_harmonics,
+        efficiency: signal.efficiency().into(),
+        losses: signal.losses().into(),
+        voltage_min: signal.voltage_min(),
+        voltage_max: signal.voltage_max(),
+        current_max: signal.current_max(),
+        power_max: signal.power_max(),
+        is_enabled: signal.is_enabled(),
+        is_faulted: signal.is_faulted(),
+        temperature: signal.temperature().into(),
     }
 }
 
-impl From<Reading> for Option<f32> {
-    fn from(reading: Reading) -> Option<f32> {
-        reading.present.then(|| reading.value)
-    }
+fn readings(port: &Port) -> Vec<Reading> {
+    let mut all = vec![
+        port.frequency,
+        port.phase_angle,
+        port.reactive_power,
+        port.apparent_power,
+        port.power_factor,
+        port.displacement_pf,
+        port.voltage_thd,
+        port.current_thd,
+        port.voltage_crest_factor,
+        port.current_crest_factor,
+        port.efficiency,
+        port.losses,
+        port.temperature,
+    ];
+    all.extend(port.voltage_harmonics);
+    all.extend(port.current_harmonics);
+    all
 }
 
-impl Reading {
-    fn same(self, other: Reading) -> bool {
-        self.present == other.present && same32(self.value, other.value)
-    }
+fn numbers(port: &Port) -> [f32; 7] {
+    [
+        port.voltage,
+        port.current,
+        port.active_power,
+        port.voltage_min,
+        port.voltage_max,
+        port.current_max,
+        port.power_max,
+    ]
 }
 
-#[repr(C)]
-#[derive(Debug, Clone, Copy)]
-pub struct Port {
-    pub voltage: f32,
-    pub current: f32,
-    pub frequency: Reading,
-    pub phase_angle: Reading,
-    pub active_power: f32,
-    pub reactive_power: Reading,
-    pub apparent_power: Reading,
-    pub power_factor: Reading,
-    pub displacement_pf: Reading,
-    pub energy_imported: f64,
-    pub energy_exported: f64,
-    pub voltage_thd: Reading,
-    pub current_thd: Reading,
-    pub voltage_crest_factor: Reading,
-    pub current_crest_factor: Reading,
-    pub voltage_harmonics: [Reading; 16],
-    pub current_harmonics: [Reading; 16],
-    pub efficiency: Reading,
-    pub losses: Reading,
-    pub voltage_min: f32,
-    pub voltage_max: f32,
-    pub current_max: f32,
-    pub power_max: f32,
-    pub is_enabled: bool,
-    pub is_faulted: bool,
-    pub temperature: Reading,
-}
-
-extern "C" {
-    fn tj_instantaneous_power(port: Port) -> f32;
-    fn tj_reset_power_params(port: Port) -> Port;
-    fn tj_voltage_harmonic(port: Port, n: u8) -> Reading;
-    fn tj_current_harmonic(port: Port, n: u8) -> Reading;
-    fn tj_set_voltage_harmonic(port: Port, n: u8, value: Reading) -> Port;
-    fn tj_set_current_harmonic(port: Port, n: u8, value: Reading) -> Port;
-    fn tj_harmonic(harmonics: *const Reading, n: u8) -> Reading;
-    fn tj_set_harmonic(harmonics: *mut Reading, n: u8, value: Reading);
-}
-
-impl Port {
-    /// What the Rust's getters give.
-    pub fn of(signal: &Signal) -> Port {
-        let mut voltage_harmonics = [ABSENT; 16];
-        let mut current_harmonics = [ABSENT; 16];
-        for n in 0..16u8 {
-            voltage_harmonics[n as usize] = signal.voltage_harmonic(n).into();
-            current_harmonics[n as usize] = signal.current_harmonic(n).into();
-        }
-        Port {
-            voltage: signal.voltage(),
-            current: signal.current(),
-            frequency: signal.frequency().into(),
-            phase_angle: signal.phase_angle().into(),
-            active_power: signal.active_power(),
-            reactive_power: signal.reactive_power().into(),
-            apparent_power: signal.apparent_power().into(),
-            power_factor: signal.power_factor().into(),
-            displacement_pf: signal.displacement_pf().into(),
-            energy_imported: signal.energy_imported(),
-            energy_exported: signal.energy_exported(),
-            voltage_thd: signal.voltage_thd().into(),
-            current_thd: signal.current_thd().into(),
-            voltage_crest_factor: signal.voltage_crest_factor().into(),
-            current_crest_factor: signal.current_crest_factor().into(),
-            voltage_harmonics,
-            current_harmonics,
-            efficiency: signal.efficiency().into(),
-            losses: signal.losses().into(),
-            voltage_min: signal.voltage_min(),
-            voltage_max: signal.voltage_max(),
-            current_max: signal.current_max(),
-            power_max: signal.power_max(),
-            is_enabled: signal.is_enabled(),
-            is_faulted: signal.is_faulted(),
-            temperature: signal.temperature().into(),
-        }
-    }
-
-    fn readings(&self) -> Vec<Reading> {
-        let mut all = vec![
-            self.frequency,
-            self.phase_angle,
-            self.reactive_power,
-            self.apparent_power,
-            self.power_factor,
-            self.displacement_pf,
-            self.voltage_thd,
-            self.current_thd,
-            self.voltage_crest_factor,
-            self.current_crest_factor,
-            self.efficiency,
-            self.losses,
-            self.temperature,
-        ];
-        all.extend(self.voltage_harmonics);
-        all.extend(self.current_harmonics);
-        all
-    }
-
-    fn numbers(&self) -> [f32; 7] {
-        [
-            self.voltage,
-            self.current,
-            self.active_power,
-            self.voltage_min,
-            self.voltage_max,
-            self.current_max,
-            self.power_max,
-        ]
-    }
-
-    pub fn same(&self, other: &Port) -> bool {
-        self.numbers().iter().zip(other.numbers()).all(|(a, b)| same32(*a, b))
-            && self.readings().iter().zip(other.readings()).all(|(a, b)| a.same(b))
-            && same64(self.energy_imported, other.energy_imported)
-            && same64(self.energy_exported, other.energy_exported)
-            && self.is_enabled == other.is_enabled
-            && self.is_faulted == other.is_faulted
-    }
+pub fn same_port(a: &Port, b: &Port) -> bool {
+    numbers(a).iter().zip(numbers(b)).all(|(x, y)| same32(*x, y))
+        && readings(a).iter().zip(readings(b)).all(|(x, y)| same_reading(*x, y))
+        && same64(a.energy_imported, b.energy_imported)
+        && same64(a.energy_exported, b.energy_exported)
+        && a.is_enabled == b.is_enabled
+        && a.is_faulted == b.is_faulted
 }
 
 fn number(random: &mut Random) -> f32 {
@@ -256,24 +195,24 @@ pub fn compare(rounds: u64, log: &mut Log) {
     for _ in 0..rounds {
         let (volts, amps, frequency) = (number(&mut random), number(&mut random), reading(&mut random));
         let mut theirs = Signal::new_power_port(volts, amps, frequency.into(), &mut []);
-        let mut ours = Port::of(&theirs);
+        let mut ours = port_of(&theirs);
         for _ in 0..random.below(CALLS) + 1 {
             set(&mut random, &mut ours, &mut theirs);
-            let expected = Port::of(&theirs);
-            log.see(whole, ours.same(&expected), || format!("{:?}, Rust {:?}", ours, expected));
+            let expected = port_of(&theirs);
+            log.see(whole, same_port(&ours, &expected), || format!("{:?}, Rust {:?}", ours, expected));
             let n = place(&mut random);
             unsafe {
                 log.see32(power, tj_instantaneous_power(ours), theirs.instantaneous_power(), || {
                     format!("{:?}", ours)
                 });
                 let (a, b) = (tj_voltage_harmonic(ours, n), theirs.voltage_harmonic(n).into());
-                log.see(voltage, a.same(b), || format!("{}: {:?}, Rust {:?}", n, a, b));
+                log.see(voltage, same_reading(a, b), || format!("{}: {:?}, Rust {:?}", n, a, b));
                 let a = tj_harmonic(ours.voltage_harmonics.as_ptr(), n);
-                log.see(lent, a.same(b), || format!("{}: {:?}, Rust {:?}", n, a, b));
+                log.see(lent, same_reading(a, b), || format!("{}: {:?}, Rust {:?}", n, a, b));
                 let (a, b) = (tj_current_harmonic(ours, n), theirs.current_harmonic(n).into());
-                log.see(current, a.same(b), || format!("{}: {:?}, Rust {:?}", n, a, b));
+                log.see(current, same_reading(a, b), || format!("{}: {:?}, Rust {:?}", n, a, b));
                 let a = tj_harmonic(ours.current_harmonics.as_ptr(), n);
-                log.see(lent, a.same(b), || format!("{}: {:?}, Rust {:?}", n, a, b));
+                log.see(lent, same_reading(a, b), || format!("{}: {:?}, Rust {:?}", n, a, b));
             }
         }
     }
@@ -298,18 +237,18 @@ fn compare_places(rounds: u64, log: &mut Log) {
             expected[n as usize + 1] = Option::from(value).into();
         }
         unsafe { tj_set_harmonic(lent[1..].as_mut_ptr(), n, value) };
-        let same = lent.iter().zip(expected).all(|(a, b)| a.same(b));
+        let same = lent.iter().zip(expected).all(|(a, b)| same_reading(*a, b));
         log.see(set, same, || format!("{}: {:?}, expected {:?}", n, lent, expected));
         let n = place(&mut beside);
         let a = unsafe { tj_harmonic(lent[1..].as_ptr(), n) };
         let b = expected[1..17].get(n as usize).map_or(ABSENT, |r| Option::from(*r).into());
-        log.see(get, a.same(b), || format!("{}: {:?}, expected {:?}", n, a, b));
+        log.see(get, same_reading(a, b), || format!("{}: {:?}, expected {:?}", n, a, b));
     }
 }
 
 pub fn bench(table: &mut Table) {
     let mut signal = Signal::new_power_port(230.0, 5.0, Some(50.0), &mut []);
-    let mut port = Port::of(&signal);
+    let mut port = port_of(&signal);
     let value: Reading = Some(2.5).into();
     let mut theirs = || {
         for n in 0..16 {

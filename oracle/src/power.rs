@@ -2,38 +2,13 @@
 
 use crate::common::{all_same32, black_box, list32, Check, Kind, Log, Random, Table, KINDS};
 use crate::signal::compute_power;
+use tilljingle::raw::{tj_compute_power, tj_power_of_codes, PowerAnswer};
+use tilljingle::Power;
 
 /// Random captures of a full comparison.
 pub const ROUNDS: u64 = 1_500_000;
 /// One round in so many is a capture of codes, held against exact sums.
 const EXACT: u64 = 10;
-
-#[repr(C)]
-#[derive(Debug, Clone, Copy)]
-pub struct Power {
-    p: f32,
-    q: f32,
-    s: f32,
-    pf: f32,
-}
-
-#[repr(C)]
-#[derive(Debug, Clone, Copy)]
-pub struct PowerAnswer {
-    code: u8,
-    power: Power,
-}
-
-extern "C" {
-    fn tj_compute_power(
-        voltage: *const f32,
-        nv: usize,
-        current: *const f32,
-        ni: usize,
-        sample_rate: f32,
-    ) -> PowerAnswer;
-    fn tj_power_of_codes(volts: *const i16, nv: usize, amps: *const i16, na: usize) -> PowerAnswer;
-}
 
 fn ours(voltage: &[f32], current: &[f32], rate: f32) -> PowerAnswer {
     unsafe { tj_compute_power(voltage.as_ptr(), voltage.len(), current.as_ptr(), current.len(), rate) }
@@ -43,10 +18,8 @@ fn of_codes(volts: &[i16], amps: &[i16]) -> PowerAnswer {
     unsafe { tj_power_of_codes(volts.as_ptr(), volts.len(), amps.as_ptr(), amps.len()) }
 }
 
-impl Power {
-    fn list(self) -> [f32; 4] {
-        [self.p, self.q, self.s, self.pf]
-    }
+fn list(power: Power) -> [f32; 4] {
+    [power.p, power.q, power.s, power.pf]
 }
 
 // ---------------------------------------------------------------------------- against the Rust
@@ -54,7 +27,7 @@ impl Power {
 fn see(log: &mut Log, check: Check, voltage: &[f32], current: &[f32], rate: f32) {
     let (p, q, s, pf) = compute_power(voltage, current, rate);
     let answer = ours(voltage, current, rate);
-    let same = answer.code == 0 && all_same32(&answer.power.list(), &[p, q, s, pf]);
+    let same = answer.code == 0 && all_same32(&list(answer.power), &[p, q, s, pf]);
     log.see(check, same, || {
         format!(
             "{} and {}: {:?}, Rust {:?}",
@@ -71,7 +44,7 @@ fn see_refused(log: &mut Log, check: Check, nv: usize, ni: usize, code: u8) {
     let (voltage, current) = (vec![1.0f32; nv], vec![1.0f32; ni]);
     let (volts, amps) = (vec![1i16; nv], vec![1i16; ni]);
     for answer in [ours(&voltage, &current, 1.0), of_codes(&volts, &amps)] {
-        let zero = answer.power.list().iter().all(|x| x.to_bits() == 0);
+        let zero = list(answer.power).iter().all(|x| x.to_bits() == 0);
         log.see(check, answer.code == code && zero, || {
             format!("{} and {}: {:?}", nv, ni, answer)
         });
@@ -396,7 +369,7 @@ fn bounds(rounds: u64, log: &mut Log) {
         let answer = ours(&voltage, &current, 1.0);
         let (p, q, s, pf) = compute_power(&voltage, &current, 1.0);
         let coded = of_codes(&volts, &amps);
-        log.see(same, coded.code == 0 && all_same32(&coded.power.list(), &[p, q, s, pf]), || {
+        log.see(same, coded.code == 0 && all_same32(&list(coded.power), &[p, q, s, pf]), || {
             format!("{} and {}: {:?}", list32(&voltage), list32(&current), coded)
         });
         let held = sentences(&volts, &amps, answer.power, &mut worst);

@@ -6,7 +6,10 @@
 
 use crate::common::{bits32, bits64, black_box, edges32, list32, same64, Check, Kind, Log, Random, Table, KINDS};
 use crate::signal::{compute_enob, compute_sfdr, compute_sinad, compute_snr, compute_thd_from_spectrum};
-use crate::timing::Figure;
+use tilljingle::raw::{
+    tj_compute_enob, tj_compute_thd_from_spectrum, tj_sfdr_quotient, tj_sinad_quotient, tj_snr_quotient,
+    tj_sqrt64_narrowed, Figure, Quotient,
+};
 
 pub mod cut {
     include!("../gen/cut.rs");
@@ -14,23 +17,6 @@ pub mod cut {
 
 /// Random spectra of a full comparison, for each call.
 pub const ROUNDS: u64 = 1_000_000;
-
-#[repr(C)]
-#[derive(Debug, Clone, Copy)]
-struct Quotient {
-    code: u8,
-    kind: u8,
-    ratio: f64,
-}
-
-extern "C" {
-    fn tj_compute_thd_from_spectrum(spectrum: *const f32, n: usize, fundamental_bin: usize) -> Figure;
-    fn tj_snr_quotient(spectrum: *const f32, n: usize, fundamental_bin: usize) -> Quotient;
-    fn tj_sinad_quotient(spectrum: *const f32, n: usize, fundamental_bin: usize) -> Quotient;
-    fn tj_sfdr_quotient(spectrum: *const f32, n: usize, fundamental_bin: usize) -> Quotient;
-    fn tj_compute_enob(sinad_db: f32) -> f32;
-    fn tj_sqrt64_narrowed(x: f64) -> f32;
-}
 
 fn our_thd(spectrum: &[f32], bin: usize) -> Figure {
     unsafe { tj_compute_thd_from_spectrum(spectrum.as_ptr(), spectrum.len(), bin) }

@@ -3,15 +3,10 @@
 use crate::common::{all_same32, bits32, black_box, edges32, list32, Check, Kind, Log, Random, Table, KINDS};
 use crate::signal::{add_dc_offset, add_signals, scale};
 use std::cell::RefCell;
+use tilljingle::raw::{tj_add_dc_offset, tj_add_signals, tj_scale};
 
 /// Random lists of a full comparison, for each call.
 pub const ROUNDS: u64 = 1_000_000;
-
-extern "C" {
-    fn tj_add_dc_offset(samples: *mut f32, n: usize, offset: f32) -> u8;
-    fn tj_scale(samples: *mut f32, n: usize, factor: f32) -> u8;
-    fn tj_add_signals(a: *const f32, na: usize, b: *const f32, nb: usize, output: *mut f32, n_output: usize) -> u8;
-}
 
 fn our_offset(samples: &mut [f32], offset: f32) -> u8 {
     unsafe { tj_add_dc_offset(samples.as_mut_ptr(), samples.len(), offset) }

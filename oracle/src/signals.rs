@@ -2,10 +2,16 @@
 //! THD is within 0.05 points of the Rust's where 01 claims it, and always that of a reading of 01 over a table made here.
 
 use crate::common::{all_same32, black_box, list32, same32, Check, Kind, Log, Random, Table};
+use crate::figures::{any_figures, figures_of, list, metrics_of};
 use crate::generator::wave_of;
-use crate::port::{self, Port, Reading, ABSENT};
+use crate::port::{self, port_of, same_port, ABSENT};
 use crate::signal::{Signal, SignalMetrics, SignalType, TailSettings};
 use std::f64::consts::PI;
+use tilljingle::raw::{
+    tj_signal_new, tj_signal_new_power_port, tj_signal_reset_waveform, tj_signal_set_duty_cycle, tj_signal_set_phase,
+    SignalAnswer,
+};
+use tilljingle::Settings;
 
 /// Sequences of a full comparison.
 pub const ROUNDS: u64 = 120_000;
@@ -34,71 +40,38 @@ const GRID: [(usize, u64); 14] = [
 /// What stands before and after the samples lent, and must stay.
 const BESIDE: f32 = -77.25;
 
-#[repr(C)]
-#[derive(Debug, Clone, Copy)]
-struct State {
-    wave: u8,
-    amplitude: f32,
-    phase: f32,
-    frequency: f32,
-    duty_cycle: f32,
-    port: Port,
-    figures: [f32; 19],
-    thd: f32,
+/// What the Rust's signal keeps.
+fn settings_of(signal: &Signal, wave: u8) -> Settings {
+    let settings = signal.tail_settings();
+    let metrics = signal.get_metrics();
+    Settings {
+        wave,
+        amplitude: settings.amplitude,
+        phase: settings.phase,
+        frequency: settings.frequency,
+        duty_cycle: settings.duty_cycle,
+        port: port_of(signal),
+        figures: figures_of(&metrics),
+        thd: metrics.thd,
+    }
 }
 
-#[repr(C)]
-#[derive(Debug, Clone, Copy)]
-struct Answer {
-    code: u8,
-    state: State,
+/// What a refused `new` answers.
+fn zero() -> Settings {
+    let mut signal = Signal::new(SignalType::DC, 0.0, 0.0, &mut []);
+    signal.reset_power_params();
+    signal.set_state(false, false);
+    let mut state = settings_of(&signal, 0);
+    state.duty_cycle = 0.0;
+    state
 }
 
-extern "C" {
-    fn tj_signal_new(wave: u8, amplitude: f32, frequency: f32, samples: *mut f32, n: usize) -> Answer;
-    fn tj_signal_new_power_port(voltage: f32, current: f32, frequency: Reading, samples: *mut f32, n: usize) -> Answer;
-    fn tj_signal_set_phase(signal: State, phase: f32, samples: *mut f32, n: usize) -> Answer;
-    fn tj_signal_set_duty_cycle(signal: State, duty_cycle: f32, samples: *mut f32, n: usize) -> Answer;
-    fn tj_signal_reset_waveform(signal: State, samples: *mut f32, n: usize) -> Answer;
-}
-
-impl State {
-    /// What the Rust's signal keeps.
-    fn of(signal: &Signal, wave: u8) -> State {
-        let settings = signal.tail_settings();
-        let metrics = signal.get_metrics();
-        State {
-            wave,
-            amplitude: settings.amplitude,
-            phase: settings.phase,
-            frequency: settings.frequency,
-            duty_cycle: settings.duty_cycle,
-            port: Port::of(signal),
-            figures: metrics.tail_time(),
-            thd: metrics.thd,
-        }
-    }
-
-    /// What a refused `new` answers.
-    fn zero() -> State {
-        let mut signal = Signal::new(SignalType::DC, 0.0, 0.0, &mut []);
-        signal.reset_power_params();
-        signal.set_state(false, false);
-        let mut state = State::of(&signal, 0);
-        state.duty_cycle = 0.0;
-        state
-    }
-
-    fn settings(&self) -> [f32; 5] {
-        [self.amplitude, self.phase, self.frequency, self.duty_cycle, self.thd]
-    }
-
-    fn same(&self, other: &State) -> bool {
-        self.wave == other.wave
-            && all_same32(&self.settings(), &other.settings())
-            && all_same32(&self.figures, &other.figures)
-            && self.port.same(&other.port)
-    }
+fn same(a: &Settings, b: &Settings) -> bool {
+    let numbers = |s: &Settings| [s.amplitude, s.phase, s.frequency, s.duty_cycle, s.thd];
+    a.wave == b.wave
+        && all_same32(&numbers(a), &numbers(b))
+        && all_same32(&list(a.figures), &list(b.figures))
+        && same_port(&a.port, &b.port)
 }
 
 /// One call that has a state already.
@@ -110,7 +83,7 @@ enum Call {
 }
 
 impl Call {
-    fn ours(self, state: State, samples: &mut [f32]) -> Answer {
+    fn ours(self, state: Settings, samples: &mut [f32]) -> SignalAnswer {
         let (at, n) = (samples.as_mut_ptr(), samples.len());
         unsafe {
             match self {
@@ -308,7 +281,7 @@ impl Checks {
     }
 
     /// THD after a call that generates, where it was `earlier` on both sides.
-    fn see_thd(&mut self, log: &mut Log, earlier: f32, ours: &State, theirs: &Signal) {
+    fn see_thd(&mut self, log: &mut Log, earlier: f32, ours: &Settings, theirs: &Signal) {
         let (samples, rust) = (theirs.get_samples(), theirs.get_metrics().thd);
         let words = || format!("{:?} {}", ours, list32(samples));
         let bin = match usable_bin(ours.frequency, samples.len()) {
@@ -333,16 +306,16 @@ impl Checks {
     }
 
     /// Everything but THD. The Rust goes on with this THD, so that every call starts from the same state.
-    fn see(&self, log: &mut Log, code: u8, ours: &State, buffer: &[f32], theirs: &mut Signal) {
+    fn see(&self, log: &mut Log, code: u8, ours: &Settings, buffer: &[f32], theirs: &mut Signal) {
         let metrics = SignalMetrics {
             thd: ours.thd,
             ..theirs.get_metrics()
         };
         theirs.tail_set_metrics(&metrics);
         theirs.set_voltage_thd(Some(ours.thd));
-        let expected = State::of(theirs, ours.wave);
+        let expected = settings_of(theirs, ours.wave);
         let wave = ours.wave < 4 && wave_of(ours.wave) == theirs.tail_settings().wave_type;
-        let same = code == 0 && wave && ours.same(&expected);
+        let same = code == 0 && wave && same(ours, &expected);
         log.see(self.fields, same, || {
             format!("{}: {:?}, Rust {:?}", code, ours, expected)
         });
@@ -354,12 +327,12 @@ impl Checks {
         });
     }
 
-    fn see_refused(&self, log: &mut Log, random: &mut Random, state: &State) {
+    fn see_refused(&self, log: &mut Log, random: &mut Random, state: &Settings) {
         let (n, code) = refused_length(random);
         let call = call(random);
         let mut samples = vec![BESIDE; n];
         let answer = call.ours(*state, &mut samples);
-        let same = answer.code == code && answer.state.same(state) && samples.iter().all(|x| *x == BESIDE);
+        let same = answer.code == code && same(&answer.signal, state) && samples.iter().all(|x| *x == BESIDE);
         log.see(self.refused, same, || {
             format!("{}: {:?} of {:?}: {:?}", n, call, state, answer)
         });
@@ -376,7 +349,7 @@ impl Checks {
                     _ => tj_signal_new(wave, a, b, samples.as_mut_ptr(), n),
                 }
             };
-            let same = answer.code == code && answer.state.same(&State::zero());
+            let same = answer.code == code && same(&answer.signal, &zero());
             let same = same && samples.iter().all(|x| *x == BESIDE);
             log.see(self.refused_new, same, || format!("{} {}: {:?}", wave, n, answer));
         }
@@ -387,15 +360,15 @@ impl Checks {
         let mut ours = vec![BESIDE; n + 2];
         let mut theirs = vec![BESIDE; n];
         let (answer, mut signal) = begin(random, &mut ours[1..n + 1], &mut theirs);
-        let mut state = answer.state;
+        let mut state = answer.signal;
         self.see_thd(log, 0.0, &state, &signal);
         self.see(log, answer.code, &state, &ours, &mut signal);
         for _ in 0..random.below(CALLS) {
             match random.below(12) {
                 0 | 1 => {
                     port::set(random, &mut state.port, &mut signal);
-                    let expected = State::of(&signal, state.wave);
-                    log.see(self.settings, state.same(&expected), || {
+                    let expected = settings_of(&signal, state.wave);
+                    log.see(self.settings, same(&state, &expected), || {
                         format!("{:?}, Rust {:?}", state, expected)
                     });
                 }
@@ -405,7 +378,7 @@ impl Checks {
                     let (call, earlier) = (call(random), state.thd);
                     let answer = call.ours(state, &mut ours[1..n + 1]);
                     call.theirs(&mut signal);
-                    state = answer.state;
+                    state = answer.signal;
                     match call {
                         Call::Reset => log.see32(self.cleared, state.thd, signal.get_metrics().thd, || {
                             format!("{:?}", state)
@@ -420,7 +393,7 @@ impl Checks {
 }
 
 /// A new signal on both sides.
-fn begin<'a>(random: &mut Random, ours: &mut [f32], theirs: &'a mut [f32]) -> (Answer, Signal<'a>) {
+fn begin<'a>(random: &mut Random, ours: &mut [f32], theirs: &'a mut [f32]) -> (SignalAnswer, Signal<'a>) {
     let (at, n) = (ours.as_mut_ptr(), ours.len());
     if random.below(6) == 0 {
         let (voltage, current) = (amplitude(random), amplitude(random));
@@ -439,12 +412,12 @@ fn begin<'a>(random: &mut Random, ours: &mut [f32], theirs: &'a mut [f32]) -> (A
 }
 
 /// Other settings, figures and THD on both sides: the record that a caller hands in may be any.
-fn disturb(random: &mut Random, state: &mut State, signal: &mut Signal) {
+fn disturb(random: &mut Random, state: &mut Settings, signal: &mut Signal) {
     state.amplitude = amplitude(random);
     state.phase = phase(random);
     state.frequency = frequency(random, signal.get_samples().len());
     state.duty_cycle = duty(random);
-    random.fill(Kind::Mixed, &mut state.figures);
+    state.figures = any_figures(random);
     state.thd = random.sample(Kind::Mixed);
     signal.tail_set(TailSettings {
         wave_type: wave_of(state.wave),
@@ -453,11 +426,10 @@ fn disturb(random: &mut Random, state: &mut State, signal: &mut Signal) {
         frequency: state.frequency,
         duty_cycle: state.duty_cycle,
     });
-    let mut all = [0.0; 24];
-    all[..13].copy_from_slice(&state.figures[..13]);
-    all[13] = state.thd;
-    all[14..20].copy_from_slice(&state.figures[13..]);
-    signal.tail_set_metrics(&SignalMetrics::tail_from(&all));
+    signal.tail_set_metrics(&SignalMetrics {
+        thd: state.thd,
+        ..metrics_of(&state.figures)
+    });
 }
 
 pub fn compare(rounds: u64, log: &mut Log) {
@@ -483,13 +455,13 @@ pub fn compare(rounds: u64, log: &mut Log) {
 fn row(table: &mut Table, name: &str, wave: u8, frequency: f32, n: usize) {
     let (mut ours, mut theirs) = (vec![0f32; n], vec![0f32; n]);
     let answer = unsafe { tj_signal_new(wave, 5.0, frequency, ours.as_mut_ptr(), n) };
-    let mut state = answer.state;
+    let mut state = answer.signal;
     let mut signal = Signal::new(wave_of(wave), 5.0, frequency, &mut theirs);
     table.row(
         name,
         n,
         || black_box(&mut signal).set_phase(black_box(30.0)),
-        || state = black_box(Call::Phase(black_box(30.0)).ours(state, black_box(&mut ours))).state,
+        || state = black_box(Call::Phase(black_box(30.0)).ours(state, black_box(&mut ours))).signal,
     );
 }
 

@@ -2,21 +2,10 @@
 
 use crate::common::{bits64, black_box, list32, Check, Kind, Log, Random, Table, KINDS};
 use crate::signal::dft_magnitude_spectrum;
+use tilljingle::raw::{tj_dft_magnitude_spectrum, tj_dft_magnitude_spectrum_in};
 
 /// Spectra of 64 samples of a full comparison: fewer of longer ones, as many of shorter.
 pub const ROUNDS: u64 = 10_000;
-
-extern "C" {
-    fn tj_dft_magnitude_spectrum(samples: *const f32, n: usize, output: *mut f32, n_output: usize) -> u8;
-    fn tj_dft_magnitude_spectrum_in(
-        samples: *const f32,
-        n: usize,
-        scratch: *mut f64,
-        n_scratch: usize,
-        output: *mut f32,
-        n_output: usize,
-    ) -> u8;
-}
 
 /// The lengths on the grid.
 const GRID: [usize; 14] = [0, 1, 2, 4, 8, 16, 32, 64, 128, 256, 512, 1024, 2048, 4096];

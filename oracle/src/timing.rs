@@ -2,21 +2,10 @@
 
 use crate::common::{bits32, black_box, edges32, list32, Check, Kind, Log, Random, Table, KINDS};
 use crate::signal::{measure_frequency, slew_rate};
+use tilljingle::raw::{tj_measure_frequency, tj_slew_rate, Figure};
 
 /// Random captures of a full comparison, for each call.
 pub const ROUNDS: u64 = 1_000_000;
-
-#[repr(C)]
-#[derive(Debug, Clone, Copy)]
-pub struct Figure {
-    pub code: u8,
-    pub value: f32,
-}
-
-extern "C" {
-    fn tj_measure_frequency(samples: *const f32, n: usize, sample_rate: f32) -> Figure;
-    fn tj_slew_rate(samples: *const f32, n: usize, sample_rate: f32) -> Figure;
-}
 
 fn our_frequency(samples: &[f32], rate: f32) -> Figure {
     unsafe { tj_measure_frequency(samples.as_ptr(), samples.len(), rate) }
