@@ -1,7 +1,8 @@
 #!/usr/bin/env python3
-"""Which exchanges of two fields of a record, or of two parameters of a call, both of one type, the checks of tools/boundary don't see, after tools/boundary.sh.
-To the caller it is the same whether the library exchanges two places or the header does: each exchange is made in a copy of the header (of parameters, by a
-macro around the call), and the checks are compiled against it, without the places that layout.c has, and run on the archive as it is.
+"""Which exchanges the checks of tools/boundary don't see, after tools/boundary.sh: of two fields of a record or two parameters of a call, both of one type, and
+of the names of two calls with the same types. To the caller it is the same whether the library exchanges them or the header does: each exchange is made in a copy
+of the header (of parameters, by a macro around the call; of names, by labels), and the checks are compiled against it, without the places that layout.c has, and
+run on the archive as it is.
 usage: exchanges.py [NAME..]   in the repository's root; the records and calls of these names alone, else all"""
 import itertools
 import os
@@ -48,19 +49,33 @@ def of_records():
             yield record[2], found[i][1], found[j][1], header
 
 
+CALLS = list(re.finditer(r"^([\w ]+?)\b(tj_\w+)\(([^()]*)\);", HEADER, re.M))
+
+
+def parameters(call):
+    """Type and name of each parameter; a slice's pointer and length go together."""
+    return re.findall(r"([\w ]+?[ *]+)(\w+(?:, size_t n\w*|, size_t room)?)(?:,\s*|$)", call[3])
+
+
 def of_calls():
-    for call in re.finditer(r"^[\w ]+?\b(tj_\w+)\(([^()]*)\);", HEADER, re.M):
-        # a slice's pointer and length go together
-        found = [(part[1], part[2]) for part in re.finditer(r"([\w ]+?[ *]+)(\w+(?:, size_t n\w*|, size_t room)?)(?:,\s*|$)", call[2])]
+    for call in CALLS:
+        found = parameters(call)
         for i, j in pairs(found):
-            there = ", ".join(re.sub(r"size_t ", "", name) for _, name in found)
-            here = ", ".join(re.sub(r"size_t ", "", name) for _, name in exchanged(found, i, j))
-            yield call[1], found[i][1], found[j][1], HEADER + f"#define {call[1]}({there}) {call[1]}({here})\n"
+            there, here = (", ".join(name.replace("size_t ", "") for _, name in order) for order in (found, exchanged(found, i, j)))
+            yield call[2], found[i][1], found[j][1], HEADER + f"#define {call[2]}({there}) {call[2]}({here})\n"
+
+
+def of_names():
+    types = [(call[1].strip(), [kind for kind, _ in parameters(call)]) for call in CALLS]
+    for i, j in pairs(list(zip(types, CALLS))):
+        one, other = CALLS[i], CALLS[j]
+        header = HEADER.replace(one[0], f'{one[0][:-1]} __asm__("{other[2]}");').replace(other[0], f'{other[0][:-1]} __asm__("{one[2]}");')
+        yield one[2], one[2], other[2], header
 
 
 def seen(header, folder):
     (folder / "tilljingle.h").write_text(header)
-    flags = [f"--target={TARGET}", "-std=c11", "-fPIE", "-isystem", "tools/boundary/std", f"-I{folder}", "-Itools/boundary"]
+    flags = [f"--target={TARGET}", "-std=c11", "-fPIE", "-nostdinc", "-isystem", "tools/boundary/std", f"-I{folder}", "-Itools/boundary"]
     objects = [folder / (path.stem + ".o") for path in CHECKS]
     for path, made in zip(CHECKS, objects):
         subprocess.run([TOOLS / "bin/clang", *flags, "-c", path, "-o", made], check=True)
@@ -72,7 +87,7 @@ def seen(header, folder):
 tried, unseen = 0, []
 with tempfile.TemporaryDirectory() as room:
     assert not seen(HEADER, pathlib.Path(room)), "the checks must pass before anything is exchanged"
-    for name, first, second, header in itertools.chain(of_records(), of_calls()):
+    for name, first, second, header in itertools.chain(of_records(), of_calls(), of_names()):
         if sys.argv[1:] and name not in sys.argv[1:]:
             continue
         tried += 1

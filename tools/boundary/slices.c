@@ -42,22 +42,19 @@ static void check_two_signals(void) {
   ARE(output, sums);
 }
 
+static void figure_is(tj_figure got, unsigned code, float value) {
+  IS(got.code, code);
+  IS(got.value, value);
+}
+
 static void check_timing(void) {
   static const float swing[] = {-1, 1, -1, 1, -1, 1}, steps[] = {0, 3, 1};
   called("tj_measure_frequency");
-  tj_figure figure = tj_measure_frequency(swing, 6, 12);
-  IS(figure.code, 0);
-  IS(figure.value, 6);
-  figure = tj_measure_frequency(many, MANY, 12);
-  IS(figure.code, 3);
-  IS(figure.value, 0);
+  figure_is(tj_measure_frequency(swing, 6, 12), 0, 6);
+  figure_is(tj_measure_frequency(many, MANY, 12), 3, 0);
   called("tj_slew_rate");
-  figure = tj_slew_rate(steps, 3, 2);
-  IS(figure.code, 0);
-  IS(figure.value, 6);
-  figure = tj_slew_rate(many, MANY, 2);
-  IS(figure.code, 3);
-  IS(figure.value, 0);
+  figure_is(tj_slew_rate(steps, 3, 2), 0, 6);
+  figure_is(tj_slew_rate(many, MANY, 2), 3, 0);
 }
 
 void check_samples(void) {
@@ -153,15 +150,9 @@ static void check_quotients(void) {
 
 void check_quality(void) {
   called("tj_compute_thd_from_spectrum");
-  tj_figure thd = tj_compute_thd_from_spectrum(spectrum, 5, 2);
-  IS(thd.code, 0);
-  IS(thd.value, 50);
-  thd = tj_compute_thd_from_spectrum(spectrum, 2, 5);
-  IS(thd.code, 0);
-  IS(thd.value, 0);
-  thd = tj_compute_thd_from_spectrum(many, MANY, 2);
-  IS(thd.code, 3);
-  IS(thd.value, 0);
+  figure_is(tj_compute_thd_from_spectrum(spectrum, 5, 2), 0, 50);
+  figure_is(tj_compute_thd_from_spectrum(spectrum, 2, 5), 0, 0);
+  figure_is(tj_compute_thd_from_spectrum(many, MANY, 2), 3, 0);
   check_quotients();
   called("tj_compute_enob");
   IS(tj_compute_enob(1.76f), 0);
