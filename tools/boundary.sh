@@ -8,8 +8,9 @@ command -v rt >/dev/null || { echo "The Rattle kit's command rt is not on the PA
 kit=$(cd "$(dirname "$(rt doc)")/.." && pwd)
 machine=$kit/on/$(uname -m)
 tools=$machine/toolchain
-rt staticlib tilljingle | tail -n 1
-archive=target/staticlib/libtilljingle.a
+out=target/boundary archive=target/staticlib/libtilljingle.a
+mkdir -p "$out"
+rt staticlib tilljingle >"$out/staticlib.log" 2>&1 || { cat "$out/staticlib.log" >&2; exit 1; }
 
 # what the archive exports, the header declares and the checks call; the kit's compiler is its llvm-nm too, by the name that it is called by
 names() { grep -oh '\btj_[a-z0-9_]*(' "$@" | tr -d '(' | sort -u; }
@@ -17,8 +18,6 @@ exported=$( (exec -a llvm-nm "$tools/bin/clang" --defined-only --extern-only "$a
 diff <(echo "$exported") <(names include/tilljingle.h) || { echo "boundary: the header declares other calls than the archive has" >&2; exit 1; }
 diff <(echo "$exported") <(names tools/boundary/*.c) || { echo "boundary: the checks make other calls than the archive has" >&2; exit 1; }
 
-out=target/boundary
-mkdir -p "$out"
 compile=("$tools/bin/clang" --target=x86_64-unknown-linux-gnu -Wall -Wextra -Werror -pedantic -nostdinc -isystem tools/boundary/std -Iinclude)
 objects=()
 for file in tools/boundary/*.c; do
