@@ -7,7 +7,11 @@ pub mod Bare
 pub mod Made
 pub mod PortIn
 pub mod PortStep
+pub mod PortBare
+pub mod PortTwo
+pub mod PortFour
 pub mod Inside
 pub mod Read
+pub mod ReadAt
 pub mod Spent
 pub mod Sequence

@@ -4,9 +4,9 @@ mod parts;
 ghost use mathlib.Core.Path.{_≡_};
 ghost use Rattle.signal.specs.State.{metricsOf};
 ghost use Rattle.signal.specs.Calls.{highest, newOf, newPortOf, phaseSet, dutySet, resetOf};
-ghost use Rattle.port.specs.Fields.{number, reading};
+ghost use Rattle.port.specs.Fields.{number, reading, places, flag};
 ghost use Rattle.port.specs.Fields as Fields;
-ghost use Rattle.port.specs.Readings.{instantaneousPower};
+ghost use Rattle.port.specs.Readings.{placeOf, withPlace, instantaneousPower, cleared};
 ghost use Rattle.held.specs.Held.{beside, after, withPort, withField, seen};
 use generator::Wave;
 use port::Port;
@@ -14,7 +14,7 @@ use port::Reading;
 use signal::Answer;
 use signal::Metrics;
 
-// The caller's samples; how the last call on them ended, and the state.
+// The caller's samples; how the last call on them ended, and the state. A setting of the port is no such call: it can't be refused, and leaves the outcome.
 pub struct Signal<'a> {
     pub samples: &'a mut [f32],
     pub answer: Answer,
@@ -92,7 +92,7 @@ impl<'a> Signal<'a> {
 
     // ---- The port's readings, as crate `port` has them: the samples, the outcome and the rest of the state stay.
 
-    // The whole port, for the calls of crate `port` that have no name here: limits, state, harmonics, the reset.
+    // The whole port.
     pub fn port(&mut self) -> Port
         ensures { λ r. ⌜ seen r (now (self .exit)) ≡ seen (now (self .entry) .answer .state .port) (now (self .entry)) ⌝ }
     {
@@ -334,6 +334,38 @@ impl<'a> Signal<'a> {
         self.answer.state.port = next;
     }
 
+    // Places 0 to 15; a higher one is absent, and setting it does nothing.
+    pub fn voltage_harmonic(&mut self, n: u8) -> Reading
+        ensures { λ r. ⌜ seen r (now (self .exit)) ≡ seen (placeOf (now (self .entry) .answer .state .port .«voltage_harmonics») n) (now (self .entry)) ⌝ }
+    {
+        let port = self.answer.state.port;
+        port.voltage_harmonic(n)
+    }
+
+    pub fn set_voltage_harmonic(&mut self, n: u8, value: Reading)
+        ensures { λ _. ⌜ now (self .exit) ≡ withField (now (self .entry)) Fields.at-voltage-harmonics (places (withPlace (now (self .entry) .answer .state .port .«voltage_harmonics») n value)) ⌝ }
+    {
+        let port = self.answer.state.port;
+        let next = port.set_voltage_harmonic(n, value);
+        self.answer.state.port = next;
+    }
+
+    // Places 0 to 15; a higher one is absent, and setting it does nothing.
+    pub fn current_harmonic(&mut self, n: u8) -> Reading
+        ensures { λ r. ⌜ seen r (now (self .exit)) ≡ seen (placeOf (now (self .entry) .answer .state .port .«current_harmonics») n) (now (self .entry)) ⌝ }
+    {
+        let port = self.answer.state.port;
+        port.current_harmonic(n)
+    }
+
+    pub fn set_current_harmonic(&mut self, n: u8, value: Reading)
+        ensures { λ _. ⌜ now (self .exit) ≡ withField (now (self .entry)) Fields.at-current-harmonics (places (withPlace (now (self .entry) .answer .state .port .«current_harmonics») n value)) ⌝ }
+    {
+        let port = self.answer.state.port;
+        let next = port.set_current_harmonic(n, value);
+        self.answer.state.port = next;
+    }
+
     pub fn efficiency(&mut self) -> Reading
         ensures { λ r. ⌜ seen r (now (self .exit)) ≡ seen (now (self .entry) .answer .state .port .efficiency .reading) (now (self .entry)) ⌝ }
     {
@@ -392,6 +424,21 @@ impl<'a> Signal<'a> {
         port.power_max()
     }
 
+    // The four limits.
+    pub fn set_limits(
+        &mut self,
+        voltage_min: f32,
+        voltage_max: f32,
+        current_max: f32,
+        power_max: f32,
+    )
+        ensures { λ _. ⌜ now (self .exit) ≡ withField (withField (withField (withField (now (self .entry)) Fields.at-voltage-min (number «voltage_min»)) Fields.at-voltage-max (number «voltage_max»)) Fields.at-current-max (number «current_max»)) Fields.at-power-max (number «power_max») ⌝ }
+    {
+        let port = self.answer.state.port;
+        let next = port.set_limits(voltage_min, voltage_max, current_max, power_max);
+        self.answer.state.port = next;
+    }
+
     pub fn is_enabled(&mut self) -> bool
         ensures { λ r. ⌜ seen r (now (self .exit)) ≡ seen (now (self .entry) .answer .state .port .«is_enabled») (now (self .entry)) ⌝ }
     {
@@ -404,6 +451,15 @@ impl<'a> Signal<'a> {
     {
         let port = self.answer.state.port;
         port.is_faulted()
+    }
+
+    // Both flags.
+    pub fn set_state(&mut self, is_enabled: bool, is_faulted: bool)
+        ensures { λ _. ⌜ now (self .exit) ≡ withField (withField (now (self .entry)) Fields.at-is-enabled (flag «is_enabled»)) Fields.at-is-faulted (flag «is_faulted») ⌝ }
+    {
+        let port = self.answer.state.port;
+        let next = port.set_state(is_enabled, is_faulted);
+        self.answer.state.port = next;
     }
 
     pub fn temperature(&mut self) -> Reading
@@ -426,5 +482,14 @@ impl<'a> Signal<'a> {
     {
         let port = self.answer.state.port;
         port.instantaneous_power()
+    }
+
+    // The port as it is at first.
+    pub fn reset_power_params(&mut self)
+        ensures { λ _. ⌜ now (self .exit) ≡ withPort (now (self .entry)) cleared ⌝ }
+    {
+        let port = self.answer.state.port;
+        let next = port.reset_power_params();
+        self.answer.state.port = next;
     }
 }
