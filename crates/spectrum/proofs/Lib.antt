@@ -5,4 +5,5 @@ pub mod Turns
 pub mod Ends
 pub mod SameFigures
 pub mod Examples
+pub mod Shown
 pub mod Running
