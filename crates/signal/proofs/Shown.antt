@@ -1,7 +1,7 @@
 -- Sequences of calls, computed from the definitions; the bits are those that the Rust gives when it is run. Assumes nothing.
 use Prim.Native.Nat.{ℕ}
 use mathlib.Core.Path.{_≡_, refl}
-use mathlib.Core.List.{List, [], _∷_}
+use mathlib.Core.List.{List, [], _∷_, map}
 use lib.Count.{trailingZeros}
 use lib.Ieee.{Float, nan, binary32, add, sub, mul, div, rem, neg, lt, le, sum, round, units, odd, size, span, climb, ofInt, ofBits, ofFields, toUnsigned}
 use Rattle.answers.specs.Numbers.{ifDone}
@@ -72,3 +72,11 @@ pub pulses : each (newOf highest PWM (b 0x40000000) (b 0x3F800000) (b 7 ∷ b 7 
     ∷ []
 unfolding remade unlessRefused outcomeOf ifDone made resetOf generated sampleAt samplesPerPeriod pwmAt filled onGrid lengths fresh withPhase clamped withDuty voltageOf levelled withMeasured silenced over totalOf narrowedMean sumOf averageOf dcRmsOf figuresOf answerOf fundamentalBin usable squareOf harmonicsOf harmonicPower lastUpTo thdFrom thdAt thdOf magnitudeOf sizeOf sumsOf sumsTo turned angleOf stepOf sineOf cosineOf quadrant fraction quarterTable narrowedRoot narrow root wholeRoot rootIn roundAway add sub mul div rem neg lt le sum round units odd size span climb trailingZeros ofInt ofBits ofFields toUnsigned
 pulses = refl
+
+-- ---- order 16 counts, and order 17 doesn't
+
+-- 01, "orders up to 16 and bins below half": the last order at some bins of 64 and of 4,096 samples
+pub last-orders : map (lastUpTo highest 32) (1 ∷ 2 ∷ 3 ∷ 16 ∷ 31 ∷ []) ∷ map (lastUpTo highest 2048) (1 ∷ 100 ∷ 127 ∷ 128 ∷ 2047 ∷ []) ∷ []
+    ≡ (16 ∷ 15 ∷ 10 ∷ 1 ∷ 1 ∷ []) ∷ (16 ∷ 16 ∷ 16 ∷ 15 ∷ 1 ∷ []) ∷ []
+unfolding lastUpTo
+last-orders = refl
