@@ -1,15 +1,19 @@
-//! Writes the data that the program crates/replay replays: a sample of inputs, the same in every run, and what the published Rust answers to each. How a line
-//! is read stands in crates/replay/src/main.rt.
+//! Writes the data that the program crates/replay replays: a sample of inputs, the same in every run, and what the published Rust answers to each; and such
+//! lines with one field of the answer wrong. How a line is read stands in crates/replay/src/main.rt.
 
 mod captures;
 mod limits;
+mod long;
+mod wrong;
 
 use crate::common::{edges32, edges64, Kind, Random, KINDS};
 use crate::generator::wave_of;
+use crate::lines::LONGEST;
 use crate::quality::cut;
 use crate::signal::{self, Signal, SignalMetrics, SignalType};
 use crate::spectrum::over_sines;
 use std::process::ExitCode;
+use wrong::{Case, Field};
 
 /// Where the files go.
 const DATA: &str = concat!(env!("CARGO_MANIFEST_DIR"), "/../crates/replay/data");
@@ -42,13 +46,14 @@ const FILES: [(&str, u64, u32, fn(&mut Lines)); 17] = [
 pub struct Lines {
     random: Random,
     item: u32,
-    text: String,
+    cases: Vec<Case>,
 }
 
-/// What one call is given: numbers, two slices, and a slice that it may write to.
+/// What one call is given: numbers, two slices, and a slice that it may write to. Some of the numbers may be what stands somewhere afterwards.
 #[derive(Default, Clone)]
 pub struct Given {
     words: Vec<u32>,
+    answers: Vec<(usize, Field)>,
     a: Vec<f32>,
     b: Vec<f32>,
     out: Vec<f32>,
@@ -78,8 +83,11 @@ fn words(x: f64) -> [u32; 2] {
     [(bits >> 32) as u32, bits as u32]
 }
 
-/// The words of a list. One that is too long for a line has the same number in all its places, which stands there once.
+/// The words of a list. One that is too long for a line has one word: that which it is made from, or the same number in all its places.
 fn listed(list: &[f32]) -> Vec<u32> {
+    if long::is_made(list.len()) {
+        return vec![long::first_of(list)];
+    }
     let mut words: Vec<u32> = list.iter().map(word).collect();
     if list.len() > ROOM {
         words.dedup();
@@ -88,23 +96,57 @@ fn listed(list: &[f32]) -> Vec<u32> {
     words
 }
 
+/// The words of a list afterwards, and what they are: of one that is made by a rule the sum.
+fn left(list: &[f32]) -> (Vec<u32>, Field) {
+    match long::is_made(list.len()) {
+        true => (vec![long::sum(list)], wrong::WHOLE),
+        false => (listed(list), Field::Float),
+    }
+}
+
+fn lengths(given: &Given) -> [usize; 3] {
+    [&given.a, &given.b, &given.out].map(|list| list.len())
+}
+
 impl Lines {
     fn line(&mut self, which: u32, given: &Given, said: &Said) {
-        let mut all = vec![0, self.item, which, given.words.len() as u32];
-        all.extend(&given.words);
+        let mut words = vec![0, self.item, which, given.words.len() as u32];
+        words.extend(&given.words);
         for list in [&given.a, &given.b, &given.out] {
-            all.push(list.len() as u32);
-            all.extend(listed(list));
+            words.push(list.len() as u32);
+            words.extend(listed(list));
         }
-        all.push(said.code);
-        all.extend(words(said.wide));
-        all.push(said.floats.len() as u32);
-        all.extend(said.floats.iter().map(word));
-        all.extend(listed(&said.out));
-        all[0] = all.len() as u32;
-        let digits: Vec<String> = all.iter().map(|word| format!("{word:08X}")).collect();
-        self.text += &digits.join(" ");
-        self.text += "\n";
+        let packed = self.item == 11 && which < 4;
+        let mut fields = vec![(words.len(), if packed { wrong::PACKED } else { wrong::WHOLE })];
+        words.push(said.code);
+        fields.push((words.len(), Field::Double));
+        words.extend(self::words(said.wide));
+        words.push(said.floats.len() as u32);
+        fields.extend((words.len()..).zip(said.floats.iter().map(|_| Field::Float)));
+        words.extend(said.floats.iter().map(word));
+        let (out, field) = left(&said.out);
+        fields.extend((words.len()..).zip(out.iter().map(|_| field)));
+        words.extend(&out);
+        fields.extend(given.answers.iter().map(|(k, field)| (4 + k, *field)));
+        words[0] = words.len() as u32;
+        self.cases.push(Case {
+            words,
+            fields,
+            lent: out.len() + given.answers.len(),
+            long: lengths(given).iter().any(|n| *n > ROOM),
+            code: said.code % 16,
+            key: self.key(which, given, said),
+        });
+    }
+
+    /// What tells one kind of case from another: the item, the call, which quotient it answers, and how its lists stand in the line.
+    fn key(&self, which: u32, given: &Given, said: &Said) -> [u32; 4] {
+        let quotient = match (self.item, which) {
+            (7, 3..=5) => said.floats[0] as u32,
+            _ => 0,
+        };
+        let forms = lengths(given).map(|n| (n > ROOM) as u32 + (n >= LONGEST) as u32);
+        [self.item, which, quotient, forms[0] + 3 * forms[1] + 9 * forms[2]]
     }
 
     /// A call on one f32 that answers one.
@@ -232,6 +274,25 @@ fn timing(lines: &mut Lines) {
             );
         }
     }
+    // 01: "Slew of 0, 3, 1 at rate 2: 6. At a NaN rate: 0."
+    for (rate, slew) in [(2.0, 6.0), (f32::NAN, 0.0)] {
+        let a = vec![0.0, 3.0, 1.0];
+        let floats = vec![signal::slew_rate(&a, rate)];
+        assert_eq!(floats, [slew]);
+        let words = vec![word(&rate)];
+        lines.line(
+            2,
+            &Given {
+                words,
+                a,
+                ..Given::default()
+            },
+            &Said {
+                floats,
+                ..Said::default()
+            },
+        );
+    }
 }
 
 /// Every tenth pair of slices differs in length: 1, and all zero.
@@ -348,11 +409,13 @@ fn spectrum(lines: &mut Lines) {
                 scratch.splice(..n.min(n_scratch), sines(n));
             }
             if which == 2 {
+                given.answers = (0..n_scratch).map(|k| (1 + 2 * k, Field::Double)).collect();
                 given.words.extend(scratch.into_iter().flat_map(words));
             }
             lines.line(which, &given, &said);
         }
     }
+    long::spectra(lines);
 }
 
 fn quality(lines: &mut Lines) {
@@ -408,6 +471,7 @@ fn quality(lines: &mut Lines) {
         let x = lines.random.sample(Kind::Mixed);
         lines.float(2, x, signal::compute_enob(x));
     }
+    long::qualities(lines);
 }
 
 fn generator(lines: &mut Lines) {
@@ -713,6 +777,7 @@ fn signals(lines: &mut Lines) {
             &said,
         );
     }
+    long::signals(lines);
 }
 
 /// A setting, and 01's THD after it.
@@ -802,19 +867,59 @@ fn held(lines: &mut Lines) {
     }
 }
 
-/// Writes every file, and says how many lines there are in all.
+/// The file of wrong answers of each kind of case, and the kind's files, as crates/replay/src/main.rt has them.
+const WRONG: [(&str, &[&str]); 3] = [
+    (
+        "wrong_slices",
+        &[
+            "number",
+            "samples",
+            "timing",
+            "power",
+            "spectrum",
+            "quality",
+            "generator",
+            "limits",
+        ],
+    ),
+    ("wrong_signals", &["figures", "port", "signal", "held", "signal_limits"]),
+    ("wrong_lines", &["capture", "codes", "report", "capture_limits"]),
+];
+
+/// The most bytes of a file.
+const LARGEST: usize = 262_144;
+
+fn write_file(name: &str, cases: &[Case]) {
+    let text: String = cases.iter().map(Case::text).collect();
+    assert!(text.len() <= LARGEST, "{name} is too long");
+    std::fs::write(format!("{DATA}/{name}"), text).expect("its data can be written");
+}
+
+/// Writes every file, and says how many lines there are in all, and how many wrong ones.
 pub fn write() -> ExitCode {
-    let mut total = 0;
+    let (mut total, mut made) = (0, Vec::new());
     for (name, seed, item, make) in FILES.iter() {
         let mut lines = Lines {
             random: Random::new(*seed),
             item: *item,
-            text: String::new(),
+            cases: Vec::new(),
         };
         make(&mut lines);
-        total += lines.text.lines().count();
-        std::fs::write(format!("{DATA}/{name}"), lines.text).expect("its data can be written");
+        let mut cases = lines.cases;
+        let alike = wrong::alike(&cases);
+        made.push((*name, cases.clone()));
+        cases.extend(alike);
+        total += cases.len();
+        write_file(name, &cases);
     }
-    println!("{total} cases");
+    println!("{total} cases, 0 differences");
+    let mut total = 0;
+    for (name, files) in WRONG {
+        let of_kind = made.iter().filter(|(file, _)| files.contains(file));
+        let cases: Vec<Case> = of_kind.flat_map(|(_, cases)| wrong::wrong(cases)).collect();
+        total += cases.len();
+        write_file(name, &cases);
+    }
+    println!("{total} wrong cases, {total} differences");
     ExitCode::SUCCESS
 }

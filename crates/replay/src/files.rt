@@ -59,9 +59,9 @@ pub fn load(name: &[u8], room: &mut [u8]) -> usize
     n
 }
 
-pub fn print(t: Tally) {
+pub fn print(t: Tally, cases: &[u8]) {
     io::print_decimal(STDOUT_FILENO, t.cases);
-    io::write_all(STDOUT_FILENO, b" cases, ");
+    io::write_all(STDOUT_FILENO, cases);
     io::print_decimal(STDOUT_FILENO, t.differ);
     io::write_all(STDOUT_FILENO, b" differences\n");
 }

@@ -13,8 +13,8 @@ fn call(line: &[u8]) -> Said {
         2 => of_capture::write_case(line),
         3 => of_report::call(line),
         4 => of_codes::call(line),
-        5 => of_limits::read_case(line),
-        6 => of_limits::write_case(line),
+        5 => of_limits::call(line, true),
+        6 => of_limits::call(line, false),
         7 => of_limits::codes_case(line),
         _ => said::nothing(),
     }

@@ -1,10 +1,15 @@
-// The lists of a line: where they stand, and how they are stored and compared.
+// The lists of a line: where they stand, and how they are stored and compared. One of more than ROOM places stands there as one word: that of the number
+// in all its places, from LEVEL places on, and else the one that it is made from (made.rt) and afterwards its sum.
+use crate::made;
 use crate::read;
 ghost use Prim.Native.Nat.{_≤_};
 ghost use lib.ListN.{length};
 
 // The most places of a list whose numbers stand in the line one by one.
 pub const ROOM: usize = 32;
+
+// The fewest places of a list that has one number in all of them.
+const LEVEL: usize = 65536;
 
 // The first words of the two slices, of the slice that may be written to and of what was answered; and the lengths.
 pub struct Places {
@@ -54,13 +59,17 @@ pub fn is_long(at: Places) -> bool {
     (ROOM < at.na) | (ROOM < at.nb) | (ROOM < at.n)
 }
 
+fn is_made(n: usize) -> bool {
+    (ROOM < n) & (n < LEVEL)
+}
+
 // How many words further the next place of a list of n stands.
 fn step(n: usize) -> usize {
     if n <= ROOM { 1 } else { 0 }
 }
 
-// Stores the list of n places whose words begin at i; what is behind it doesn't matter.
-pub fn fill(line: &[u8], i: usize, n: usize, out: &mut [f32]) {
+// Stores the n numbers whose words begin at i.
+fn fill_each(line: &[u8], i: usize, n: usize, out: &mut [f32]) {
     let by = step(n);
     let mut at = i;
     let mut k = 0usize;
@@ -68,6 +77,15 @@ pub fn fill(line: &[u8], i: usize, n: usize, out: &mut [f32]) {
         out[k] = read::float(line, at);
         at = read::behind(at, by);
         k += 1;
+    }
+}
+
+// Stores the list of n places whose words begin at i; what is behind it doesn't matter.
+pub fn fill(line: &[u8], i: usize, n: usize, out: &mut [f32]) {
+    if is_made(n) {
+        made::fill(read::word(line, i), out);
+    } else {
+        fill_each(line, i, n, out);
     }
 }
 
@@ -79,8 +97,8 @@ fn same32(a: f32, b: f32) -> bool {
     a == b
 }
 
-// Whether the list of n places whose words begin at i stands in the first of these.
-pub fn same(line: &[u8], i: usize, n: usize, xs: &[f32]) -> bool {
+// Whether the n numbers whose words begin at i stand in the first of these.
+fn same_each(line: &[u8], i: usize, n: usize, xs: &[f32]) -> bool {
     if xs.len() < n {
         return false;
     }
@@ -94,4 +112,18 @@ pub fn same(line: &[u8], i: usize, n: usize, xs: &[f32]) -> bool {
         k += 1;
     }
     all
+}
+
+fn sum_of_first(n: usize, xs: &[f32]) -> u32 {
+    let n = read::least(n, xs.len());
+    let from = 0usize;
+    made::sum(&xs[from..n])
+}
+
+// Whether the list of n places whose words begin at i stands in the first of these.
+pub fn same(line: &[u8], i: usize, n: usize, xs: &[f32]) -> bool {
+    if is_made(n) {
+        return sum_of_first(n, xs) == read::word(line, i);
+    }
+    same_each(line, i, n, xs)
 }

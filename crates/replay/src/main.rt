@@ -1,12 +1,13 @@
-// Replays a sample of the oracle's answers, and prints how many cases there were and how many answers differ. A file of cases has one case a line, in words
-// (read.rt): how many words the line has; 01's item and which of its calls; then four times a count and so many words, for the numbers that the call is
-// given, two slices, and a slice that it may write to; what it answered (said.rt), and that slice afterwards. A slice of more than ROOM places has one number
-// in all of them, which stands in the line once.
+// Replays a sample of the oracle's answers, and prints how many cases there were and how many answers differ; then the same of cases with one field of the
+// answer wrong, each of which must differ. A file of cases has one case a line, in words (read.rt): how many words the line has; 01's item and which of its
+// calls; then four times a count and so many words, for the numbers that the call is given, two slices, and a slice that it may write to; what it answered
+// (said.rt), and that slice afterwards. A slice of more than ROOM places stands in the line as one word (lists.rt).
 use files::Tally;
 
 mod files;
 mod lines;
 mod lists;
+mod made;
 mod of_capture;
 mod of_codes;
 mod of_figures;
@@ -70,7 +71,11 @@ fn of_slices(before: Tally) -> Tally {
     let tally = file(Kind::Slices, b"samples", tally);
     let tally = file(Kind::Slices, b"timing", tally);
     let tally = file(Kind::Slices, b"power", tally);
-    let tally = file(Kind::Slices, b"spectrum", tally);
+    of_spectra(tally)
+}
+
+fn of_spectra(before: Tally) -> Tally {
+    let tally = file(Kind::Slices, b"spectrum", before);
     let tally = file(Kind::Slices, b"quality", tally);
     let tally = file(Kind::Slices, b"generator", tally);
     file(Kind::Slices, b"limits", tally)
@@ -91,9 +96,16 @@ fn of_lines(before: Tally) -> Tally {
     file(Kind::Lines, b"capture_limits", tally)
 }
 
+// Cases with one field wrong in what was answered: each must differ.
+fn of_wrong(before: Tally) -> Tally {
+    let tally = file(Kind::Slices, b"wrong_slices", before);
+    let tally = file(Kind::Signals, b"wrong_signals", tally);
+    file(Kind::Lines, b"wrong_lines", tally)
+}
+
 fn main() {
     let tally = of_slices(files::none());
     let tally = of_signals(tally);
-    let tally = of_lines(tally);
-    files::print(tally);
+    files::print(of_lines(tally), b" cases, ");
+    files::print(of_wrong(files::none()), b" wrong cases, ");
 }

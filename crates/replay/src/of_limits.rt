@@ -49,6 +49,11 @@ fn put_one_more(text: &mut [u8], from: usize) {
     writing::write_capture(&[7i16; 1], &[8i16; 1], 4096, &mut text[from..n]);
 }
 
+fn put_text(text: &mut [u8]) {
+    put_lines(&[7i16; 65536], &[8i16; 65536], text);
+    put_one_more(text, 561152);
+}
+
 fn read_long(line: &[u8], text: &[u8], volts: &mut [i16], amps: &mut [i16]) -> Said {
     let n = read::size(line, 4);
     let nv = read::size(line, 5);
@@ -62,12 +67,9 @@ fn read_long(line: &[u8], text: &[u8], volts: &mut [i16], amps: &mut [i16]) -> S
     said::where_right(right, outcome)
 }
 
-// The length of the text, the rooms, the line and the pairs answered, three places and what stands there afterwards. Before, 5 and 6 stand in the rooms.
-pub fn read_case(line: &[u8]) -> Said {
-    let mut text = [46u8; 561169];
-    put_lines(&[7i16; 65536], &[8i16; 65536], &mut text);
-    put_one_more(&mut text, 561152);
-    read_long(line, &text, &mut [5i16; 65537], &mut [6i16; 65537])
+// Before, 5 and 6 stand in the rooms.
+fn read_codes(line: &[u8], text: &[u8]) -> Said {
+    read_long(line, text, &mut [5i16; 65537], &mut [6i16; 65537])
 }
 
 // ---- writing
@@ -85,9 +87,20 @@ fn write_long(line: &[u8], text: &mut [u8]) -> Said {
     said::where_right(right, outcome)
 }
 
-// The counts of codes, the room, the bytes answered, three places and what stands there afterwards. Before, a full stop stands in each place.
-pub fn write_case(line: &[u8]) -> Said {
-    write_long(line, &mut [46u8; 561169])
+// ---- the case
+
+fn on_text(line: &[u8], reads: bool, text: &mut [u8]) -> Said {
+    if !reads {
+        return write_long(line, text);
+    }
+    put_text(text);
+    read_codes(line, text)
+}
+
+// Reading: the length of the text, the rooms, the line and the pairs answered, three places and what stands there afterwards. Writing: the counts of codes,
+// the room, the bytes answered, three places and what stands there afterwards. Before, a full stop stands in each place of the text.
+pub fn call(line: &[u8], reads: bool) -> Said {
+    on_text(line, reads, &mut [46u8; 561169])
 }
 
 // ---- the power of codes

@@ -1,5 +1,7 @@
-// The spectrum, and the same with a scratch. Behind the scratch's length a line has what stands in it afterwards, as f64.
+// The spectrum, and the same with a scratch. Behind the scratch's length a line has what stands in it afterwards, as f64, or, for one of up to 4,096 places,
+// the sum of all 4,096.
 use crate::lists::ROOM;
+use crate::made;
 use crate::read;
 use crate::said;
 use crate::said::Said;
@@ -35,10 +37,20 @@ fn with_scratch(line: &[u8], a: &[f32], out: &mut [f32]) -> Said {
     said::where_right(same_sines(line, 5, n, &scratch), outcome)
 }
 
+fn with_long_scratch(line: &[u8], a: &[f32], out: &mut [f32]) -> Said {
+    let mut scratch = [0.75f64; 4096];
+    let outcome = on_part(&mut scratch, read::size(line, 4), a, out);
+    said::where_right(
+        made::sum_of_doubles(&scratch) == read::word(line, 5),
+        outcome,
+    )
+}
+
 pub fn call(line: &[u8], which: u32, a: &[f32], out: &mut [f32]) -> Said {
     match which {
         1 => said::ended(spectrum::dft_magnitude_spectrum(a, out)),
         2 => with_scratch(line, a, out),
+        3 => with_long_scratch(line, a, out),
         _ => said::nothing(),
     }
 }

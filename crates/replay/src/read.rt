@@ -60,7 +60,7 @@ pub fn byte(line: &[u8], i: usize) -> u8 {
 }
 
 // The f32 with these bits; any NaN for a NaN's.
-fn float_of(bits: u32) -> f32 {
+pub fn float_of(bits: u32) -> f32 {
     if 0x7f80_0000 < bits % 0x8000_0000 {
         return 0.0 / 0.0;
     }

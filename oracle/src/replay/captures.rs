@@ -1,5 +1,6 @@
 //! Capture lines, read and written; the power of codes; the report.
 
+use super::wrong::{text_fields, Field, PAIR};
 use super::{Given, Lines, Said};
 use crate::common::Random;
 use crate::lines;
@@ -21,10 +22,11 @@ fn packed(text: &[u8]) -> Vec<u32> {
         .collect()
 }
 
-/// A call that is given words alone, and answers a number.
-pub fn ended(lines: &mut Lines, which: u32, words: Vec<u32>, code: u32) {
+/// A call that is given words alone, and answers a number; some of them are what it answers, or what stands somewhere afterwards.
+pub fn ended(lines: &mut Lines, which: u32, words: Vec<u32>, answers: Vec<(usize, Field)>, code: u32) {
     let given = Given {
         words,
+        answers,
         ..Given::default()
     };
     let said = Said {
@@ -65,7 +67,6 @@ fn text(random: &mut Random) -> Vec<u8> {
 pub fn capture(lines: &mut Lines) {
     for _ in 0..250 {
         let text = text(&mut lines.random);
-        let (mut volts, mut amps) = ([7; 20], [8; 20]);
         let needed = lines::pairs_of(&text).map_or(3, |pairs| pairs.len() as u64);
         let [nv, na] = [0; 2].map(|_| {
             lines
@@ -73,13 +74,30 @@ pub fn capture(lines: &mut Lines) {
                 .pick(&[needed, needed, needed + 1, 20, 20, needed.max(1) - 1])
                 .min(20) as usize
         });
-        let read = lines::read(&text, &mut volts[..nv], &mut amps[..na]);
-        let mut words = vec![text.len() as u32, nv as u32, na as u32];
-        words.extend(pairs(&volts, &amps));
-        words.extend(packed(&text));
-        let code = read.code as u32 + 16 * read.line as u32 + 65_536 * read.pairs as u32;
-        ended(lines, 1, words, code);
+        read_into(lines, &text, nv, na);
     }
+    writes(lines);
+    // 01: "Sequence FFFF then 0000 is good, FFFF twice gives 7."
+    for (second, expected) in [(0, (0, 0, 2)), (0xFFFF, (7, 2, 0))] {
+        let text = [lines::line_of(0xFFFF, &[(1, -1)]), lines::line_of(second, &[(2, -2)])].concat();
+        let read = read_into(lines, &text, 20, 20);
+        assert_eq!((read.code, read.line, read.pairs), expected);
+    }
+}
+
+/// Reads a capture into so many places of 20.
+fn read_into(lines: &mut Lines, text: &[u8], nv: usize, na: usize) -> lines::Read {
+    let (mut volts, mut amps) = ([7; 20], [8; 20]);
+    let read = lines::read(text, &mut volts[..nv], &mut amps[..na]);
+    let mut words = vec![text.len() as u32, nv as u32, na as u32];
+    words.extend(pairs(&volts, &amps));
+    words.extend(packed(text));
+    let code = read.code as u32 + 16 * read.line as u32 + 65_536 * read.pairs as u32;
+    ended(lines, 1, words, (3..23).map(|k| (k, PAIR)).collect(), code);
+    read
+}
+
+fn writes(lines: &mut Lines) {
     for round in 0..150 {
         let codes = [0; 40].map(|_| lines.random.bits() as i16);
         let (volts, amps) = codes.split_at(20);
@@ -102,7 +120,7 @@ pub fn capture(lines: &mut Lines) {
         words.extend(pairs(volts, amps));
         words.extend(packed(&text[..room]));
         let code = written.code as u32 + 16 * written.bytes as u32;
-        ended(lines, 2, words, code);
+        ended(lines, 2, words, text_fields(24, room), code);
     }
 }
 
@@ -162,7 +180,7 @@ fn reported(lines: &mut Lines, input: &[u8], room: usize) {
     let mut words = vec![input.len() as u32, room as u32];
     words.extend(packed(&printed));
     words.extend(packed(input));
-    ended(lines, 3, words, code);
+    ended(lines, 3, words, text_fields(2, room), code);
 }
 
 /// The edges that have room here, each with much, enough, too little and no room; then captures of a few lines, every other one changed.

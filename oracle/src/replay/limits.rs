@@ -1,6 +1,7 @@
 //! The limit of 65,536: slices of that many places and of one more. What is refused with 3, and before it what would be refused otherwise, comes from 01.
 
 use super::captures::{ended, pairs, power};
+use super::wrong::{Field, PAIR, WHOLE};
 use super::{reading, shown, with_thd, word, words, Given, Lines, Said, SCRATCH};
 use crate::generator::wave_of;
 use crate::lines::{self, LONGEST};
@@ -137,6 +138,7 @@ fn spectra(lines: &mut Lines, n: usize) {
             words: [scratch as u32].into_iter().chain(kept).collect(),
             a: level(n),
             out: vec![-77.25; 2],
+            answers: (0..scratch).map(|k| (1 + 2 * k, Field::Double)).collect(),
             ..Given::default()
         };
         case(lines, 6, which, &given, limited(&[n], 4), |_, _| ());
@@ -278,7 +280,8 @@ fn reads(lines: &mut Lines) {
             words.push(k as u32);
             words.extend(pairs(&volts[k..=k], &amps[k..=k]));
         }
-        ended(lines, 5, words, read.code as u32);
+        let answers = vec![(3, WHOLE), (4, WHOLE), (6, PAIR), (8, PAIR), (10, PAIR)];
+        ended(lines, 5, words, answers, read.code as u32);
     }
 }
 
@@ -301,7 +304,8 @@ fn writes(lines: &mut Lines) {
         for k in [0, 561_151, 561_152] {
             words.extend([k as u32, text[k] as u32]);
         }
-        ended(lines, 6, words, written.code as u32);
+        let answers = [3, 5, 7, 9].map(|k| (k, WHOLE)).to_vec();
+        ended(lines, 6, words, answers, written.code as u32);
     }
 }
 

@@ -1,9 +1,9 @@
--- `replay::lists::same` meets its contract. The measure is what is left. Assumes nothing.
+-- `replay::lists::same_each` meets its contract. The measure is what is left. Assumes nothing.
 use Prim.Native.Nat.{_≤_, _-_}
 use native.Mathlib.Omega.{arith}
 use borrow.Author.Needs.{needs}
-use Rattle.replay.proofs.lists.same.Statement.{statement}
-use Rattle.replay.proofs.lists.same.Tie as tie
+use Rattle.replay.proofs.lists.same_each.Statement.{statement}
+use Rattle.replay.proofs.lists.same_each.Tie as tie
 
 abbrev Inv-loop : tie.InvT-loop
 Inv-loop line i n xs by at₀ all₀ k₀ at all k = k ≤ n
@@ -47,8 +47,8 @@ loop-again c = omega arith
 returns-2 : tie.Need-returns-2 Inv-loop μ-loop
 returns-2 c = search needs
 
-pub same-spec : {M : Type 1} → statement M
-same-spec =
+pub same-each-spec : {M : Type 1} → statement M
+same-each-spec =
     tie.close
     (tie.spec
     Inv-loop

@@ -1,11 +1,11 @@
--- `replay::lists::fill` meets its contract. The measure is what is left. Assumes nothing.
+-- `replay::lists::fill_each` meets its contract. The measure is what is left. Assumes nothing.
 use mathlib.Core.Path.{_≡_, refl}
 use Prim.Native.Nat.{_≤_, _-_}
 use native.Mathlib.Omega.{arith}
 use borrow.Author.Needs.{needs}
 use lib.ListN.{length, length-set}
-use Rattle.replay.proofs.lists.fill.Statement.{statement}
-use Rattle.replay.proofs.lists.fill.Tie as tie
+use Rattle.replay.proofs.lists.fill_each.Statement.{statement}
+use Rattle.replay.proofs.lists.fill_each.Tie as tie
 
 abbrev Inv-loop : tie.InvT-loop
 Inv-loop line i n out₀ by at₀ k₀ out at k = (length out ≡ length out₀) × (k ≤ length out₀)
@@ -46,8 +46,8 @@ same-length c = c .before .loop .inv .0
 returns : tie.Need-returns Inv-loop μ-loop
 returns c = search needs
 
-pub fill-spec : {M : Type 1} → statement M
-fill-spec =
+pub fill-each-spec : {M : Type 1} → statement M
+fill-each-spec =
     tie.close
     (tie.spec
     Inv-loop

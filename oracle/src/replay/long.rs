@@ -1,0 +1,209 @@
+//! Lists of more places than a line has words for, made by a rule from one word and compared by a sum: as crates/replay/src/made.rt has them.
+
+use super::wrong::WHOLE;
+use super::{answered, reading, set_again, sines, with_thd, word, Given, Lines, Said, ROOM, SCRATCH};
+use crate::generator::wave_of;
+use crate::lines::LONGEST;
+use crate::quality::cut;
+use crate::signal::{self, Signal};
+use crate::spectrum::over_sines;
+
+/// Whether a list of so many places is made by the rule.
+pub fn is_made(n: usize) -> bool {
+    ROOM < n && n < LONGEST
+}
+
+/// Numbers below 65,537, each 75 times the one before, and 74; of each a float from a half to two, negative where it is odd.
+pub fn made(first: u32, n: usize) -> Vec<f32> {
+    let numbers = std::iter::successors(Some(first as u64 % 65537), |s| Some((s * 75 + 74) % 65537));
+    let float = |s: u64| f32::from_bits((0x3F00_0000 + s * 0x100 + s % 2 * 0x8000_0000) as u32);
+    numbers.map(float).take(n).collect()
+}
+
+/// The word that this list was made from.
+pub fn first_of(list: &[f32]) -> u32 {
+    let first = (list[0].abs().to_bits() - 0x3F00_0000) / 0x100;
+    assert_eq!(made(first, list.len()), list);
+    first
+}
+
+/// The sum of so many words.
+fn summed(words: impl Iterator<Item = u32>) -> u32 {
+    words.fold(0, |sum, word| (sum * 65599 + word as u64) % 4_294_967_291) as u32
+}
+
+/// The sum of a list's words: one word for every NaN, and one for either zero.
+pub fn sum(list: &[f32]) -> u32 {
+    summed(list.iter().map(|x| if *x == 0.0 { 0 } else { word(x) }))
+}
+
+/// The same for f64 that are numbers.
+fn sum_of_doubles(list: &[f64]) -> u32 {
+    let bits = |x: &f64| if *x == 0.0 { 0 } else { x.to_bits() };
+    summed(list.iter().flat_map(|x| [(bits(x) >> 32) as u32, bits(x) as u32]))
+}
+
+/// The lengths past a line's room: those of the grid, their neighbours, and some beyond.
+const LENGTHS: [usize; 17] = [
+    33, 63, 64, 65, 100, 128, 256, 512, 1024, 2047, 2048, 4095, 4096, 4097, 6000, 8192, 65535,
+];
+
+/// 01, row 4, past a line's room: the powers of two up to 4,096.
+fn on_grid(n: usize) -> bool {
+    n.is_power_of_two() && n <= 4096
+}
+
+/// A list to write to, of the rule where it is too long for a line.
+fn lent(n: usize) -> Vec<f32> {
+    if is_made(n) {
+        made(n as u32, n)
+    } else {
+        vec![-77.25; n]
+    }
+}
+
+/// Both calls with enough room and with more, and at two lengths with too little.
+pub fn spectra(lines: &mut Lines) {
+    for (n, spare) in LENGTHS.iter().zip([0, 1, 2].iter().cycle()) {
+        for which in [1, 3] {
+            spectrum(lines, which, *n, n / 2 + spare, (n + spare).min(4096));
+        }
+    }
+    for n in [64, 4096] {
+        spectrum(lines, 1, n, n / 2 - 1, 0);
+        spectrum(lines, 3, n, n / 2 - 1, n);
+        spectrum(lines, 3, n, n / 2, n - 1);
+    }
+}
+
+/// The spectrum of n places of the rule into so many; the call 3 with a scratch among 4,096 places, whose sum stands in the line.
+fn spectrum(lines: &mut Lines, which: u32, n: usize, n_out: usize, n_scratch: usize) {
+    let a = made(7 * n as u32 + 1, n);
+    let out = lent(n_out);
+    let short = n_out < n / 2 || which == 3 && n_scratch < n;
+    let mut scratch = vec![SCRATCH; 4096];
+    let mut said = Said {
+        code: if on_grid(n) { 2 * short as u32 } else { 4 },
+        out: out.clone(),
+        ..Said::default()
+    };
+    if said.code == 0 {
+        over_sines(&a, &sines(n), &mut said.out);
+        scratch.splice(..n, sines(n));
+    }
+    let mut given = Given {
+        words: vec![n_scratch as u32],
+        a,
+        out,
+        ..Given::default()
+    };
+    if which == 3 {
+        given.words.push(sum_of_doubles(&scratch));
+        given.answers = vec![(1, WHOLE)];
+    }
+    lines.line(which, &given, &said);
+}
+
+/// Distortion and the quotients of spectra of the rule, at the first bins above 0 and at those about whose multiple by 16 the spectrum ends.
+pub fn qualities(lines: &mut Lines) {
+    for n in [33, 64, 2048, 4096, 65535] {
+        let a = made(n as u32 + 5, n);
+        let from = |first: usize| (first..n).filter(|bin| a[*bin] > 0.0);
+        for bin in from(1).take(3).chain(from((n - 1) / 17).take(3)) {
+            let given = Given {
+                words: vec![0, bin as u32],
+                a: a.clone(),
+                ..Given::default()
+            };
+            let of = |wide: f64, floats: Vec<f32>| Said {
+                wide,
+                floats,
+                ..Said::default()
+            };
+            lines.line(1, &given, &of(0.0, vec![signal::compute_thd_from_spectrum(&a, bin)]));
+            let (snr, sinad, sfdr) = (cut::cut_snr(&a, bin), cut::cut_sinad(&a, bin), cut::cut_sfdr(&a, bin));
+            lines.line(3, &given, &of(snr.1, vec![snr.0 as f32]));
+            lines.line(4, &given, &of(sinad.1, vec![sinad.0 as f32]));
+            lines.line(5, &given, &of(0.0, vec![sfdr.0 as f32, sfdr.1 as f32]));
+        }
+    }
+}
+
+/// Signals of every wave, at frequencies whose order 16 lies just below half, at half or past it, or far below; then a duty cycle, a phase and, at
+/// times, a reset. Off the grid one is enough.
+pub fn signals(lines: &mut Lines) {
+    for n in LENGTHS {
+        let half = n as f32 / 2.0;
+        let frequencies = [1.0, half / 16.0 - 0.6, half / 16.0, half / 20.0, half / 15.0, 2.0];
+        let many = match n {
+            64 | 4096 => 6,
+            _ if on_grid(n) => 2,
+            _ => 1,
+        };
+        for (k, frequency) in frequencies[..many].iter().enumerate() {
+            let settings = [[0, 0, 0], [2, 1, 0], [1, 2, 3 * (k as u32 / 5)]][k % 3];
+            made_signal(lines, n, 3, *frequency, settings);
+            made_signal(lines, n, k as u8 % 3, *frequency, [2, 0, settings[1]]);
+        }
+    }
+    for n in [64, 4096, 4097] {
+        made_port(lines, n);
+    }
+}
+
+/// What every call on a length off the grid says: 4, all zero or absent, and the samples as they were.
+fn refused(out: &[f32]) -> Said {
+    Said {
+        code: 4,
+        floats: [[0.0; 27].to_vec(), vec![-1.0; 4]].concat(),
+        out: out.to_vec(),
+        ..Said::default()
+    }
+}
+
+/// A signal on n places of the rule, and three settings.
+fn made_signal(lines: &mut Lines, n: usize, wave: u8, frequency: f32, settings: [u32; 3]) {
+    let value = |setting| if setting == 1 { 100.0 } else { 0.3 };
+    let mut words = vec![wave as u32, word(&1.5), word(&frequency), 0];
+    words.extend(settings.iter().flat_map(|setting| [*setting, word(&value(*setting))]));
+    let out = made(n as u32, n);
+    let mut said = refused(&out);
+    if on_grid(n) {
+        let mut samples = out.clone();
+        let mut signal = Signal::new(wave_of(wave), 1.5, frequency, &mut samples);
+        with_thd(&mut signal, 0.0);
+        for setting in settings {
+            match setting {
+                1 => set_again(&mut signal, |s| s.set_phase(value(1))),
+                2 => set_again(&mut signal, |s| s.set_duty_cycle(value(2))),
+                3 => signal.reset_waveform(),
+                _ => (),
+            }
+        }
+        said = answered(&signal, &out);
+    }
+    ended(lines, 1, words, out, &said);
+}
+
+fn made_port(lines: &mut Lines, n: usize) {
+    let mut words = [&[word(&2.5), word(&-3.0)][..], &reading(Some(50.0))].concat();
+    words.extend([0; 6]);
+    let out = made(n as u32, n);
+    let mut said = refused(&out);
+    if on_grid(n) {
+        let mut samples = out.clone();
+        let mut signal = Signal::new_power_port(2.5, -3.0, Some(50.0), &mut samples);
+        with_thd(&mut signal, 0.0);
+        said = answered(&signal, &out);
+    }
+    ended(lines, 2, words, out, &said);
+}
+
+fn ended(lines: &mut Lines, which: u32, words: Vec<u32>, out: Vec<f32>, said: &Said) {
+    let given = Given {
+        words,
+        out,
+        ..Given::default()
+    };
+    lines.line(which, &given, said);
+}
