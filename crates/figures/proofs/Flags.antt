@@ -8,10 +8,10 @@ use lib.ListN.{length, getD}
 use lib.Ieee.{Float, nan, lt, le}
 use Rattle.laws.specs.Walks.{pairs}
 use Rattle.figures.specs.declared.edges.Edges.{Edges}
-use Rattle.figures.specs.Edges.{Seen, nothingSeen, riseStarts, riseGrows, fallStarts, fallGrows, fourTests, seenIn, seenBetween, sampleTimeOf, edgeTimeOf, riseNumber, fallNumber, noEdge, riseBegins, riseCounts, fallBegins, fallCounts, edgeAt, edgesOf, edgesBetween, lowThreshold, highThreshold, timesOf}
+use Rattle.figures.specs.Edges.{RiseFall, nothingYet, riseStarts, riseGrows, fallStarts, fallGrows, fourTests, riseFallOf, riseFallBetween, sampleTimeOf, edgeTimeOf, riseNumber, fallNumber, noEdge, riseBegins, riseCounts, fallBegins, fallCounts, edgeAt, edgesOf, edgesBetween, lowThreshold, highThreshold, timesOf}
 
 -- what the number says of the flags
-abbrev pub flags : Edges → Seen
+abbrev pub flags : Edges → RiseFall
 flags s = record { rising = eqb (s .edge) riseNumber; falling = eqb (s .edge) fallNumber; rise = s .rise; fall = s .fall }
 
 module _ (s : Edges) where
@@ -55,25 +55,25 @@ one-sample : (low high : Float) (s : Edges) (i : ℕ) (prev curr : Float) → fl
 unfolding edgeAt fourTests
 one-sample low high s i prev curr =
     fourth _ low curr
-    ∙ ap (λ (t : Seen). fallGrows low t curr)
-    (third _ high prev curr ∙ ap (λ (t : Seen). fallStarts high t prev curr) (second _ high curr ∙ ap (λ (t : Seen). riseGrows high t curr) (first s low prev curr)))
+    ∙ ap (λ (t : RiseFall). fallGrows low t curr)
+    (third _ high prev curr ∙ ap (λ (t : RiseFall). fallStarts high t prev curr) (second _ high curr ∙ ap (λ (t : RiseFall). riseGrows high t curr) (first s low prev curr)))
 
 module _ (low high : Float) (xs : List Float) where
-  by-then : (k : ℕ) → flags (pairs (edgeAt low high) noEdge xs k) ≡ pairs (λ (s : Seen) (i : ℕ). fourTests low high s) nothingSeen xs k
+  by-then : (k : ℕ) → flags (pairs (edgeAt low high) noEdge xs k) ≡ pairs (λ (s : RiseFall) (i : ℕ). fourTests low high s) nothingYet xs k
   unfolding pairs
   by-then zero = refl
-  by-then (suc k) = one-sample low high (pairs (edgeAt low high) noEdge xs k) (suc k) _ _ ∙ ap (λ (s : Seen). fourTests low high s (getD xs k nan) (getD xs (suc k) nan)) (by-then k)
+  by-then (suc k) = one-sample low high (pairs (edgeAt low high) noEdge xs k) (suc k) _ _ ∙ ap (λ (s : RiseFall). fourTests low high s (getD xs k nan) (getD xs (suc k) nan)) (by-then k)
 
-  pub same-edges : flags (edgesOf low high xs) ≡ seenIn low high xs
-  unfolding edgesOf seenIn
+  pub same-edges : flags (edgesOf low high xs) ≡ riseFallOf low high xs
+  unfolding edgesOf riseFallOf
   same-edges = by-then (length xs - 1)
 
 -- so its times are those of the definition
 module _ (min swing : Float) (xs : List Float) (frequency : Float) where
-  pub rise-time : timesOf (edgesBetween min swing xs) frequency (length xs) .rise ≡ edgeTimeOf frequency (length xs) (seenBetween min swing xs .rise)
+  pub rise-time : timesOf (edgesBetween min swing xs) frequency (length xs) .rise ≡ edgeTimeOf frequency (length xs) (riseFallBetween min swing xs .rise)
   unfolding timesOf edgeTimeOf
-  rise-time = ap (λ (s : Seen). edgeTimeOf frequency (length xs) (s .rise)) (same-edges (lowThreshold min swing) (highThreshold min swing) xs)
+  rise-time = ap (λ (s : RiseFall). edgeTimeOf frequency (length xs) (s .rise)) (same-edges (lowThreshold min swing) (highThreshold min swing) xs)
 
-  pub fall-time : timesOf (edgesBetween min swing xs) frequency (length xs) .fall ≡ edgeTimeOf frequency (length xs) (seenBetween min swing xs .fall)
+  pub fall-time : timesOf (edgesBetween min swing xs) frequency (length xs) .fall ≡ edgeTimeOf frequency (length xs) (riseFallBetween min swing xs .fall)
   unfolding timesOf edgeTimeOf
-  fall-time = ap (λ (s : Seen). edgeTimeOf frequency (length xs) (s .fall)) (same-edges (lowThreshold min swing) (highThreshold min swing) xs)
+  fall-time = ap (λ (s : RiseFall). edgeTimeOf frequency (length xs) (s .fall)) (same-edges (lowThreshold min swing) (highThreshold min swing) xs)

@@ -19,7 +19,7 @@ use Rattle.number.specs.Number.{narrow, root, abs}
 use Rattle.timing.specs.Timing.{totalOf, narrowedMean, risesAt, crossingAt, noCrossing, crossingsOf, frequencyFrom, frequencyAbout, slewAt, steepestOf, slewOf}
 use Rattle.figures.specs.Levels.{maxOf, minOf, adding, sumOf, away, averageOf, rectifiedOf, dcRmsOf, acRmsOf}
 use Rattle.figures.specs.Duty.{millionth, near, isHigh, tally, highsOf}
-use Rattle.figures.specs.Edges.{Seen, nothingSeen, riseStarts, riseGrows, fallStarts, fallGrows, fourTests, seenIn}
+use Rattle.figures.specs.Edges.{RiseFall, nothingYet, riseStarts, riseGrows, fallStarts, fallGrows, fourTests, riseFallOf}
 use Rattle.figures.specs.Ratios.{crestOf, periodOf, excessOf}
 use Rattle.figures.proofs.NanSums.{by-then}
 use Rattle.figures.specs.Figures.{peakToPeakOf, positivePeakOf, negativePeakOf, crestFactorOf, formFactorOf, hertzOf, slewRateOf, overshootOf, undershootOf}
@@ -134,15 +134,15 @@ module _ (xs ys : List Float) where
   nan-period = rw nan-hertz
 
 -- a step into a NaN neither begins an edge nor counts for one, and is no slew; a step out of one begins no edge, and is no slew
-pub edge-into : (low high : Float) (s : Seen) (prev : Float) → fourTests low high s prev nan ≡ s
+pub edge-into : (low high : Float) (s : RiseFall) (prev : Float) → fourTests low high s prev nan ≡ s
 unfolding fourTests riseStarts riseGrows fallStarts fallGrows
 edge-into low high s prev = simp (lt-nan, nan-lt, le-nan, nan-le, and-false)
 
-pub rise-out : (low : Float) (s : Seen) (curr : Float) → riseStarts low s nan curr ≡ s
+pub rise-out : (low : Float) (s : RiseFall) (curr : Float) → riseStarts low s nan curr ≡ s
 unfolding riseStarts
 rise-out low s curr = rw nan-le
 
-pub fall-out : (high : Float) (s : Seen) (curr : Float) → fallStarts high s nan curr ≡ s
+pub fall-out : (high : Float) (s : RiseFall) (curr : Float) → fallStarts high s nan curr ≡ s
 unfolding fallStarts
 fall-out high s curr = rw le-nan
 
@@ -191,11 +191,11 @@ pub nans-undershoot : (amplitude : Float) (n : ℕ) → undershootOf amplitude (
 unfolding excessOf lt ofBits
 nans-undershoot amplitude n = rw (nans-swing n)
 
-pub nans-edges : (low high : Float) (n : ℕ) → seenIn low high (nans n) ≡ nothingSeen
-unfolding seenIn pairs
+pub nans-edges : (low high : Float) (n : ℕ) → riseFallOf low high (nans n) ≡ nothingYet
+unfolding riseFallOf pairs
 nans-edges low high n = none (length (nans n) - 1)
   where
-    none : (k : ℕ) → pairs (λ (s : Seen) (i : ℕ). fourTests low high s) nothingSeen (nans n) k ≡ nothingSeen
+    none : (k : ℕ) → pairs (λ (s : RiseFall) (i : ℕ). fourTests low high s) nothingYet (nans n) k ≡ nothingYet
     none zero = refl
     none (suc k) = rw (nans-at n (suc k), edge-into) (none k)
 

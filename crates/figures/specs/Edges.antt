@@ -13,40 +13,40 @@ use Rattle.figures.specs.declared.edges.Times.{Times}
 
 -- ---- the state, as the Rust has it: its flags `rising` and `falling`, and its counts `rise_samples` and `fall_samples` of the last rise and the last fall
 
-pub record Seen : Type 0 where
+pub record RiseFall : Type 0 where
   pub rising : Bool
   pub falling : Bool
   pub rise : ℕ
   pub fall : ℕ
 
-abbrev pub nothingSeen : Seen
-nothingSeen = record { rising = false; falling = false; rise = 0; fall = 0 }
+abbrev pub nothingYet : RiseFall
+nothingYet = record { rising = false; falling = false; rise = 0; fall = 0 }
 
 -- ---- the four tests of a sample, with the sample before it
 
 -- the Rust's `if prev <= threshold_low && curr > threshold_low`: a rise begins, a fall is over, and the rise's count starts anew
-unfoldable pub riseStarts : Float → Seen → Float → Float → Seen
+unfoldable pub riseStarts : Float → RiseFall → Float → Float → RiseFall
 riseStarts low s prev curr = cond (le prev low && lt low curr) (record { rising = true; falling = false; rise = 0; fall = s .fall }) s
 
 -- `if rising && curr <= threshold_high`: the sample counts for the rise
-unfoldable pub riseGrows : Float → Seen → Float → Seen
+unfoldable pub riseGrows : Float → RiseFall → Float → RiseFall
 riseGrows high s curr = cond (s .rising && le curr high) (record { rising = s .rising; falling = s .falling; rise = s .rise + 1; fall = s .fall }) s
 
 -- `if prev >= threshold_high && curr < threshold_high`: a fall begins, a rise is over, and the fall's count starts anew
-unfoldable pub fallStarts : Float → Seen → Float → Float → Seen
+unfoldable pub fallStarts : Float → RiseFall → Float → Float → RiseFall
 fallStarts high s prev curr = cond (le high prev && lt curr high) (record { rising = false; falling = true; rise = s .rise; fall = 0 }) s
 
 -- `if falling && curr >= threshold_low`: the sample counts for the fall
-unfoldable pub fallGrows : Float → Seen → Float → Seen
+unfoldable pub fallGrows : Float → RiseFall → Float → RiseFall
 fallGrows low s curr = cond (s .falling && le low curr) (record { rising = s .rising; falling = s .falling; rise = s .rise; fall = s .fall + 1 }) s
 
 -- in the Rust's order: the sample that starts the fall counts for the rise as well
-unfoldable pub fourTests : Float → Float → Seen → Float → Float → Seen
+unfoldable pub fourTests : Float → Float → RiseFall → Float → Float → RiseFall
 fourTests low high s prev curr = fallGrows low (fallStarts high (riseGrows high (riseStarts low s prev curr) curr) prev curr) curr
 
 -- the Rust's `for i in 1..n`: every sample but the first
-unfoldable pub seenIn : Float → Float → List Float → Seen
-seenIn low high xs = pairs (λ (s : Seen) (i : ℕ). fourTests low high s) nothingSeen xs (length xs - 1)
+unfoldable pub riseFallOf : Float → Float → List Float → RiseFall
+riseFallOf low high xs = pairs (λ (s : RiseFall) (i : ℕ). fourTests low high s) nothingYet xs (length xs - 1)
 
 -- ---- thresholds: a tenth and nine tenths of the swing above the minimum, by the nearest f32 to 0.1 and to 0.9
 
@@ -57,8 +57,8 @@ abbrev pub highThreshold : Float → Float → Float
 highThreshold min swing = add binary32 min (mul binary32 (ofBits binary32 0x3F666666) swing)
 
 -- the edges of samples with this minimum and this swing
-abbrev pub seenBetween : Float → Float → List Float → Seen
-seenBetween min swing xs = seenIn (lowThreshold min swing) (highThreshold min swing) xs
+abbrev pub riseFallBetween : Float → Float → List Float → RiseFall
+riseFallBetween min swing xs = riseFallOf (lowThreshold min swing) (highThreshold min swing) xs
 
 -- ---- times
 

@@ -17,7 +17,7 @@ use Rattle.figures.specs.declared.TimeFigures.{TimeFigures}
 use Rattle.figures.specs.declared.TimeAnswer.{TimeAnswer}
 use Rattle.figures.specs.Levels.{maxOf, minOf, averageOf, dcRmsOf, acRmsOf, rectifiedOf}
 use Rattle.figures.specs.Duty.{dutyOf}
-use Rattle.figures.specs.Edges.{Seen, seenBetween, edgeTimeOf}
+use Rattle.figures.specs.Edges.{RiseFall, riseFallBetween, edgeTimeOf}
 use Rattle.figures.specs.Ratios.{crestOf, periodOf, excessOf}
 
 -- ---- of the levels: max, min, average, dc_rms and ac_rms are those of Levels.antt
@@ -52,8 +52,8 @@ abbrev pub restOf : Wave → Float → List Float → Float
 restOf wave amplitude xs = sub binary32 one32 (dutyOf wave amplitude xs)
 
 -- the samples of the last rise and the last fall, between the thresholds of the samples' own extremes. 01, "Samples 0 to 10 rise in 8 samples"
-abbrev pub edgesIn : List Float → Seen
-edgesIn xs = seenBetween (minOf xs) (peakToPeakOf xs) xs
+abbrev pub edgesIn : List Float → RiseFall
+edgesIn xs = riseFallBetween (minOf xs) (peakToPeakOf xs) xs
 
 abbrev pub riseTimeOf : Float → List Float → Float
 riseTimeOf frequency xs = edgeTimeOf frequency (length xs) (edgesIn xs .rise)

@@ -43,7 +43,7 @@ pub struct TimeAnswer {
     pub figures: TimeFigures,
 }
 
-// The record of at least one sample. The samples are one second, so their count is the rate.
+// The record of at least one sample. For frequency and slew rate the samples are one second, so their count is the rate.
 fn measure(wave: Wave, amplitude: f32, frequency: f32, samples: &[f32]) -> TimeFigures
     requires { ⌜ length (now samples) ≤ longest ⌝ }
     ensures { λ r. ⌜ r ≡ figuresOf wave amplitude frequency (now (samples .entry)) ⌝ }

@@ -24,6 +24,8 @@ sineOf s = quadrant (s / 1024) (fraction (t (s % 1024))) (fraction (t (1024 - s 
 unfoldable pub cosineOf : ℕ → Float
 cosineOf s = sineOf ((s + 1024) % 4096)
 
+-- ---- for the code alone: no public contract cites what follows
+
 -- the quarter's place for a step h of the half turn, 0 to 2047: up to 1024 and then down
 abbrev pub folded : ℕ → ℕ
 folded h = cond (leb h 1024) h (2048 - h)

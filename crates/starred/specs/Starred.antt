@@ -21,7 +21,7 @@ use Rattle.power.specs.declared.PowerAnswer.{PowerAnswer}
 use Rattle.power.specs.Power.{sumTo, mean64, activeOf, apparentOf, aboveZero, reactiveOf, recordOf, zeroPower, answered, powerOf, outcomeOf as powerOutcome, answerOf}
 use Rattle.timing.specs.Timing.{totalOf, narrowedMean, risesAt, firstOf, crossingAt, crossingsOf, frequencyFrom, frequencyAbout, frequencyAnswer, slewAt, steepestOf, slewOf, slewAnswer}
 use Rattle.figures.specs.Levels.{maxOf, minOf}
-use Rattle.figures.specs.Edges.{riseStarts, riseGrows, fallStarts, fallGrows, fourTests, seenIn}
+use Rattle.figures.specs.Edges.{riseStarts, riseGrows, fallStarts, fallGrows, fourTests, riseFallOf}
 use Rattle.figures.specs.Figures.{edgesIn}
 use Rattle.quarter.specs.Table.{quarterTable}
 use Rattle.quarter.specs.Turn.{fraction, quadrant, sineOf, cosineOf}
@@ -133,5 +133,5 @@ starred =
 -- ---- the statement
 
 pub starred-hold : map (λ (r : Row). answerTo (r .call)) starred ≡ map (λ (r : Row). r .answer) starred
-unfolding answerOf powerOutcome powerOf recordOf sumTo mean64 activeOf narrowedRoot apparentOf ratioOrZero aboveZero reactiveOf over pairs totalOf narrowedMean higher lower risesAt firstOf crossingAt crossingsOf frequencyFrom frequencyAbout slewAt steepestOf slewOf frequencyAnswer slewAnswer maxOf minOf riseStarts riseGrows fallStarts fallGrows fourTests seenIn spectrumOf outcomeOf onGrid lengths ifDone filled binOf halved magnitudeOf sizeOf sumsOf sumsTo turned angleOf stepOf sineOf cosineOf quadrant fraction quarterTable onto within isDigit digitOf codeOf pairAt wordAt allDigits sequenceOf countOf rightForm sumOf rightSum lineOf runCodes codesBy lineCodes addLine cut codesOf follows after weigh judge verdictOf settle readCapture narrow root wholeRoot rootIn abs add sub mul div neg sum round units odd size span climb trailingZeros lt le ofInt ofBits ofFields
+unfolding answerOf powerOutcome powerOf recordOf sumTo mean64 activeOf narrowedRoot apparentOf ratioOrZero aboveZero reactiveOf over pairs totalOf narrowedMean higher lower risesAt firstOf crossingAt crossingsOf frequencyFrom frequencyAbout slewAt steepestOf slewOf frequencyAnswer slewAnswer maxOf minOf riseStarts riseGrows fallStarts fallGrows fourTests riseFallOf spectrumOf outcomeOf onGrid lengths ifDone filled binOf halved magnitudeOf sizeOf sumsOf sumsTo turned angleOf stepOf sineOf cosineOf quadrant fraction quarterTable onto within isDigit digitOf codeOf pairAt wordAt allDigits sequenceOf countOf rightForm sumOf rightSum lineOf runCodes codesBy lineCodes addLine cut codesOf follows after weigh judge verdictOf settle readCapture narrow root wholeRoot rootIn abs add sub mul div neg sum round units odd size span climb trailingZeros lt le ofInt ofBits ofFields
 starred-hold = refl
