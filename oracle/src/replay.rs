@@ -811,7 +811,6 @@ fn held(lines: &mut Lines) {
         }
         let mut said = answered(&signal, &out);
         if which == 3 {
-            said.code = 0;
             said.floats.truncate(20);
         }
         let numbers = match which {
@@ -839,16 +838,21 @@ fn held(lines: &mut Lines) {
         let mut signal = Signal::new_power_port(voltage, current, frequency, &mut samples);
         signal.set_voltage(next);
         let on_grid = n == 0 || n.is_power_of_two();
-        let power = if on_grid {
-            signal.instantaneous_power()
-        } else {
-            next * 0.0
-        };
-        let said = Said {
+        let power = signal.instantaneous_power();
+        let mut said = Said {
             floats: vec![power],
-            out: if on_grid { samples } else { out.clone() },
+            out: samples,
             ..Said::default()
         };
+        // refused: 4, and all zero
+        if !on_grid {
+            said = Said {
+                code: 4,
+                floats: vec![0.0],
+                out: out.clone(),
+                ..Said::default()
+            };
+        }
         let words = [
             &[word(&voltage), word(&current)][..],
             &reading(frequency),

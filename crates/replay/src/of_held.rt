@@ -5,7 +5,6 @@ use crate::of_signal;
 use crate::read;
 use crate::said;
 use crate::said::Said;
-use answers::Outcome;
 use signal::Answer;
 
 fn answered(a: Answer) -> Said {
@@ -36,21 +35,23 @@ fn emptied(line: &[u8], out: &mut [f32]) -> Said {
 }
 
 fn measured(line: &[u8], out: &mut [f32]) -> Said {
-    let metrics = sequences::measured(
+    let answer = sequences::measured(
         generator::wave_of(read::byte(line, 4)),
         read::float(line, 5),
         read::float(line, 6),
         read::float(line, 7),
         out,
     );
+    let outcome = answer.outcome;
+    let metrics = answer.metrics;
     let figures = metrics.figures;
     let mut xs = of_figures::list(figures);
     xs[19] = metrics.thd;
-    said::floats(Outcome::Done, xs)
+    said::floats(outcome, xs)
 }
 
 fn powered(line: &[u8], out: &mut [f32]) -> Said {
-    said::float(sequences::powered(
+    said::measured(sequences::powered(
         read::float(line, 4),
         read::float(line, 5),
         of_port::reading_at(line, 6),

@@ -1,5 +1,6 @@
 -- The walks. Assumes nothing.
 pub mod Lengths
+pub mod Endings
 pub mod Lending
 pub mod Callees
 pub mod Setting

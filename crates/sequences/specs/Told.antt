@@ -1,11 +1,17 @@
 -- What a sequence that ends in a reading hands out, and a setting of the port on what the calls before left. Definitions only.
 use mathlib.Core.List.{List}
 use lib.Ieee.{Float}
-use Rattle.signal.specs.declared.State.{State}
+use Rattle.answers.specs.declared.Measured.{Measured}
+use Rattle.laws.specs.Literals.{zero32}
+use Rattle.spectrum.specs.Spectrum.{ifDone}
+use Rattle.signal.specs.declared.Answer.{Answer}
+use Rattle.signal.specs.declared.Metrics.{Metrics}
+use Rattle.signal.specs.State.{metricsOf, zeroFigures}
 use Rattle.signal.specs.Calls.{Left, left}
 use Rattle.port.specs.Fields.{put, number, at-voltage}
 use Rattle.port.specs.Readings.{instantaneousPower}
 use Rattle.held.specs.Held.{swapped}
+use Rattle.sequences.specs.declared.MetricsAnswer.{MetricsAnswer}
 
 -- what was read, and the samples
 pub record Told (A : Type 0) : Type 0 where
@@ -15,14 +21,31 @@ pub record Told (A : Type 0) : Type 0 where
 abbrev pub told : {A : Type 0} → A → List Float → Told A
 told x xs = record { value = x; places = xs }
 
--- a part of the state that the calls before left, and their samples
-abbrev pub partOf : {A : Type 0} → (State → A) → Left → Told A
-partOf part l = told (part (l .answer .state)) (l .places)
+-- what a reading makes of what the calls before answered, and their samples
+abbrev pub partOf : {A : Type 0} → (Answer → A) → Left → Told A
+partOf part l = told (part (l .answer)) (l .places)
 
--- the samples and all but the port's voltage stay
+-- the samples and all but the port's voltage stay; a setting of the port is not refused, and the outcome is that of the call before
 abbrev pub withVoltage : Float → Left → Left
 withVoltage v l = left (swapped (l .answer) (put (l .answer .state .port) at-voltage (number v))) (l .places)
 
+-- ---- what the last call says of the state, whether the calls before were refused or not
+
+-- 01, item 10, `get_metrics`
+abbrev pub metricsIn : Answer → Metrics
+metricsIn a = metricsOf (a .state)
+
 -- 01, item 9, `instantaneous_power`: of the state's port
-abbrev pub portPower : State → Float
-portPower s = instantaneousPower (s .port)
+abbrev pub powerIn : Answer → Float
+powerIn a = instantaneousPower (a .state .port)
+
+-- ---- what the sequence answers: how its calls ended, and that; 01, "What a refusal returns is zero throughout"
+
+abbrev pub zeroMetrics : Metrics
+zeroMetrics = record { figures = zeroFigures; thd = zero32 }
+
+abbrev pub metricsTold : Answer → MetricsAnswer
+metricsTold a = record { outcome = a .outcome; metrics = ifDone (a .outcome) (metricsIn a) zeroMetrics }
+
+abbrev pub powerTold : Answer → Measured
+powerTold a = record { outcome = a .outcome; value = ifDone (a .outcome) (powerIn a) zero32 }

@@ -1,44 +1,23 @@
--- `measured` meets its contract: its MIR is that of `Begun.antt` and `ThenRead.antt`, whose walk takes the callees' contracts.
--- Assumes nothing.
-use mathlib.Core.Path.{_≡_, refl}
-use mathlib.Core.List.{List}
-use lib.Ieee.{Float}
-use contract.Running.{givenOf, tables, tablesOf}
-use denote.Triple.Spec.{tripleOf}
-use denote.Triple.Table.{entered, cited}
-use Rattle.signal.specs.Calls.{Left, highest, newOf, dutySet}
-use Rattle.signal.specs.State.{metricsOf}
-use Rattle.signal.specs.declared.Answer.{Answer}
-use Rattle.signal.specs.declared.Metrics.{Metrics}
-use Rattle.held.proofs.ByValue.{wave, wave-laws, number, number-laws, metrics, metrics-laws}
-use Rattle.held.proofs.Signal.new.Symbol as new-def
-use Rattle.held.proofs.Signal.new.Met as new-thm
-use Rattle.held.proofs.Signal.set_duty_cycle.Symbol as duty-def
-use Rattle.held.proofs.Signal.set_duty_cycle.Met as duty-thm
-use Rattle.held.proofs.Signal.get_metrics.Symbol as metrics-def
-use Rattle.held.proofs.Signal.get_metrics.Met as metrics-thm
-use Rattle.sequences.specs.Told.{told, partOf}
-use Rattle.sequences.proofs.Lengths.{new-length, duty-length}
-use Rattle.sequences.proofs.Callees.{Making, Setting, Reading}
-use Rattle.sequences.proofs.ThenRead.{read-meets}
-use Rattle.sequences.proofs.measured.Key.{name}
-use Rattle.sequences.proofs.measured as measured
-use Rattle.sequences.proofs.measured.Statement as stated
-use Rattle.sequences.proofs.measured.Code as code
+-- `sequences::measured` meets its contract: how the calls ended, beside what the last one says. Assumes nothing.
+use borrow.Author.Needs.{needs}
+use denote.Ref.{now}
+use Rattle.sequences.proofs.Endings.{measured-told}
+use Rattle.sequences.proofs.measured.Statement.{statement}
+use Rattle.sequences.proofs.measured.Tie as tie
 
-abbrev duty : Answer → Float → List Float → Left
-duty a d xs = dutySet highest (a .state) d xs
+judged-requires : tie.Need-judged-requires
+judged-requires c κs = search needs
 
-abbrev part : Answer → Metrics
-part a = metricsOf (a .state)
+metrics-after-requires : tie.Need-metrics-after-requires
+metrics-after-requires c κs = search needs
 
-pub measured-spec : {M : Type 1} → stated.statement M
-unfolding code.routine tablesOf
-measured-spec 𝓤 H 𝓜 𝓖 𝓡 =
-    entered 𝓤 H (tripleOf 𝓤 H (𝓖 .A) measured.signature (measured.spec 𝓤 H (𝓖 .A) (𝓜 .mem) (𝓡 .run)))
-    (tables 𝓤 H 𝓜 𝓡 code.env .C) (tables 𝓤 H 𝓜 𝓡 code.env .Λ) name code.function (code.unfolded 𝓤 H 𝓜 𝓡)
-    (read-meets metrics metrics-laws wave wave-laws number number-laws number number-laws number number-laws (newOf highest) duty part (λ l r zs. told r zs ≡ partOf metricsOf l) (λ l. refl) (new-length highest) (λ a. duty-length highest (a .state))
-    𝓤 H (𝓖 .A) (givenOf 𝓤 H 𝓜 𝓖) new-def.name duty-def.name metrics-def.name (tablesOf 𝓤 H 𝓜 (tables 𝓤 H 𝓜 𝓡 code.env))
-    (cited 𝓤 H (Making wave number number (newOf highest) 𝓤 H (𝓖 .A)) 𝓜 𝓡 code.env new-def.name new-def.routine code.calls-held·Signal·new (new-thm.met 𝓤 H 𝓜 𝓖 𝓡))
-    (cited 𝓤 H (Setting number duty 𝓤 H (𝓖 .A)) 𝓜 𝓡 code.env duty-def.name duty-def.routine code.calls-held·Signal·set-duty-cycle (duty-thm.met 𝓤 H 𝓜 𝓖 𝓡))
-    (cited 𝓤 H (Reading metrics part 𝓤 H (𝓖 .A)) 𝓜 𝓡 code.env metrics-def.name metrics-def.routine code.calls-held·Signal·get-metrics (metrics-thm.met 𝓤 H 𝓜 𝓖 𝓡)))
+same-length : tie.Need-same-length
+same-length c = search needs
+
+returns : tie.Need-returns
+returns c =
+    let args = c .before .before .before .before .before .before .args in
+    measured-told (args .wave) (args .amplitude) (args .frequency) (args .duty-cycle) (now (args .samples)) _ (c .before .before .before .before .judged .ensures) _ _ (c .before .before .metrics-after .ensures)
+
+pub measured-spec : {M : Type 1} → statement M
+measured-spec = tie.close (tie.spec judged-requires metrics-after-requires same-length returns)

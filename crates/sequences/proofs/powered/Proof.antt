@@ -1,42 +1,26 @@
--- `powered` meets its contract: its MIR is that of `Begun.antt` and `ThenRead.antt`, whose walk takes the callees' contracts.
--- Assumes nothing.
-use mathlib.Core.Path.{_≡_, refl}
-use mathlib.Core.List.{List}
-use lib.Ieee.{Float}
-use contract.Running.{givenOf, tables, tablesOf}
-use denote.Triple.Spec.{tripleOf}
-use denote.Triple.Table.{entered, cited}
-use Rattle.signal.specs.Calls.{Left, left, highest, newPortOf}
-use Rattle.signal.specs.declared.Answer.{Answer}
-use Rattle.held.proofs.ByValue.{number, number-laws, reading, reading-laws}
-use Rattle.held.proofs.Signal.new_power_port.Symbol as new-def
-use Rattle.held.proofs.Signal.new_power_port.Met as new-thm
-use Rattle.held.proofs.Signal.set_voltage.Symbol as set-def
-use Rattle.held.proofs.Signal.set_voltage.Met as set-thm
-use Rattle.held.proofs.Signal.instantaneous_power.Symbol as power-def
-use Rattle.held.proofs.Signal.instantaneous_power.Met as power-thm
-use Rattle.sequences.specs.Told.{told, partOf, withVoltage, portPower}
-use Rattle.sequences.proofs.Lengths.{port-length}
-use Rattle.sequences.proofs.Callees.{Making, Setting, Reading}
-use Rattle.sequences.proofs.ThenRead.{read-meets}
-use Rattle.sequences.proofs.powered.Key.{name}
-use Rattle.sequences.proofs.powered as powered
-use Rattle.sequences.proofs.powered.Statement as stated
-use Rattle.sequences.proofs.powered.Code as code
+-- `sequences::powered` meets its contract: how the calls ended, beside what the last one says. Assumes nothing.
+use borrow.Author.Needs.{needs}
+use denote.Ref.{now}
+use Rattle.sequences.proofs.Endings.{powered-told}
+use Rattle.sequences.proofs.powered.Statement.{statement}
+use Rattle.sequences.proofs.powered.Tie as tie
 
-abbrev set : Answer → Float → List Float → Left
-set a v xs = withVoltage v (left a xs)
+judged-requires : tie.Need-judged-requires
+judged-requires c κs = search needs
 
-abbrev part : Answer → Float
-part a = portPower (a .state)
+power-after-requires : tie.Need-power-after-requires
+power-after-requires c κs = search needs
 
-pub powered-spec : {M : Type 1} → stated.statement M
-unfolding code.routine tablesOf
-powered-spec 𝓤 H 𝓜 𝓖 𝓡 =
-    entered 𝓤 H (tripleOf 𝓤 H (𝓖 .A) powered.signature (powered.spec 𝓤 H (𝓖 .A) (𝓜 .mem) (𝓡 .run)))
-    (tables 𝓤 H 𝓜 𝓡 code.env .C) (tables 𝓤 H 𝓜 𝓡 code.env .Λ) name code.function (code.unfolded 𝓤 H 𝓜 𝓡)
-    (read-meets number number-laws number number-laws number number-laws reading reading-laws number number-laws (newPortOf highest) set part (λ l r zs. told r zs ≡ partOf portPower l) (λ l. refl) (port-length highest) (λ a v xs. refl)
-    𝓤 H (𝓖 .A) (givenOf 𝓤 H 𝓜 𝓖) new-def.name set-def.name power-def.name (tablesOf 𝓤 H 𝓜 (tables 𝓤 H 𝓜 𝓡 code.env))
-    (cited 𝓤 H (Making number number reading (newPortOf highest) 𝓤 H (𝓖 .A)) 𝓜 𝓡 code.env new-def.name new-def.routine code.calls-held·Signal·new-power-port (new-thm.met 𝓤 H 𝓜 𝓖 𝓡))
-    (cited 𝓤 H (Setting number set 𝓤 H (𝓖 .A)) 𝓜 𝓡 code.env set-def.name set-def.routine code.calls-held·Signal·set-voltage (set-thm.met 𝓤 H 𝓜 𝓖 𝓡))
-    (cited 𝓤 H (Reading number part 𝓤 H (𝓖 .A)) 𝓜 𝓡 code.env power-def.name power-def.routine code.calls-held·Signal·instantaneous-power (power-thm.met 𝓤 H 𝓜 𝓖 𝓡)))
+unless-refused-requires : tie.Need-unless-refused-requires
+unless-refused-requires c κs = search needs
+
+same-length : tie.Need-same-length
+same-length c = search needs
+
+returns : tie.Need-returns
+returns c =
+    let args = c .before .before .before .before .before .before .before .args in
+    powered-told (args .voltage) (args .current) (args .frequency) (args .next) (now (args .samples)) _ _ _ _ (c .before .before .before .before .before .judged .ensures) (c .before .before .before .power-after .ensures) (c .unless-refused .ensures)
+
+pub powered-spec : {M : Type 1} → statement M
+powered-spec = tie.close (tie.spec judged-requires power-after-requires unless-refused-requires same-length returns)

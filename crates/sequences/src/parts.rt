@@ -1,0 +1,53 @@
+// The calls of a sequence that ends in a reading, what that says of the state they left, and what of it is told.
+ghost use mathlib.Core.Path.{_≡_};
+ghost use mathlib.Core.List.{[], _∷_};
+ghost use Rattle.laws.specs.Literals.{zero32};
+ghost use Rattle.spectrum.specs.Spectrum.{ifDone};
+ghost use Rattle.signal.specs.Calls.{highest, newOf, newPortOf};
+ghost use Rattle.signal.specs.Sequence as Sequence;
+ghost use Rattle.sequences.specs.Told.{told, partOf, withVoltage, metricsIn, powerIn};
+use answers::Outcome;
+use generator::Wave;
+use held::Signal;
+use port::Reading;
+use signal::Metrics;
+
+// A wave, then its duty cycle, then its metrics.
+pub fn metrics_after(
+    wave: Wave,
+    amplitude: f32,
+    frequency: f32,
+    duty_cycle: f32,
+    samples: &mut [f32],
+) -> Metrics
+    ensures { λ r. ⌜ told r (now (samples .exit)) ≡ partOf metricsIn (Sequence.run highest (newOf highest wave amplitude frequency (now (samples .entry))) (Sequence.setting (Sequence.duty «duty_cycle») ∷ [])) ⌝ }
+{
+    let mut signal = Signal::new(wave, amplitude, frequency, samples);
+    signal.set_duty_cycle(duty_cycle);
+    signal.get_metrics()
+}
+
+// A port, then its voltage, then its power.
+pub fn power_after(
+    voltage: f32,
+    current: f32,
+    frequency: Reading,
+    next: f32,
+    samples: &mut [f32],
+) -> f32
+    ensures { λ r. ⌜ told r (now (samples .exit)) ≡ partOf powerIn (withVoltage next (newPortOf highest voltage current frequency (now (samples .entry)))) ⌝ }
+{
+    let mut signal = Signal::new_power_port(voltage, current, frequency, samples);
+    signal.set_voltage(next);
+    signal.instantaneous_power()
+}
+
+// A value where the calls were done, and zero where they were refused.
+pub fn unless_refused(outcome: Outcome, value: f32) -> f32
+    ensures { λ r. ⌜ r ≡ ifDone outcome value zero32 ⌝ }
+{
+    if answers::number_of(outcome) != 0 {
+        return 0.0;
+    }
+    value
+}
