@@ -3,24 +3,24 @@
 --     powered-told         `powered`: what its last call says is told where none was refused
 -- Assumes nothing.
 use mathlib.Core.Path.{_≡_, refl, sym, ap, _∙_}
-use mathlib.Core.Bool.{Bool, true, false, not, cond}
+use mathlib.Core.Bool.{Bool, true, false, not}
 use mathlib.Core.List.{List, [], _∷_}
 use mathlib.Core.Logic.{_⊎_, inl, inr, ⊎-elim}
 use Prim.Native.Nat.{ℕ, zero, suc}
 use native.Mathlib.Omega.{arith}
-use lib.Dec.{eqb}
 use lib.Ieee.{Float}
 use lib.ListN.{length}
 use Rattle.answers.specs.declared.Outcome.{Outcome}
 use Rattle.answers.specs.declared.Outcome.the-variants.{Done, OutputShort, TooLong, OffGrid}
 use Rattle.answers.specs.declared.Measured.{Measured}
-use Rattle.answers.specs.Numbers.{numberOf, tooLong, refuse}
+use Rattle.answers.specs.Numbers.{numberOf, ifDone, tooLong, refuse}
 use Rattle.laws.specs.Literals.{zero32}
 use Rattle.generator.specs.declared.Wave.{Wave}
+use Rattle.generator.specs.declared.Wave.the-variants.{DC}
 use Rattle.port.specs.declared.Reading.{Reading}
 use Rattle.spectrum.specs.Grid.{onGrid}
-use Rattle.spectrum.specs.Spectrum.{outcomeOf, ifDone}
-use Rattle.spectrum.proofs.Ends.{kept, changed}
+use Rattle.spectrum.specs.Spectrum.{outcomeOf}
+use Rattle.answers.proofs.Ended.{if-refused, if-done, if-either}
 use Rattle.signal.specs.declared.State.{State}
 use Rattle.signal.specs.declared.Metrics.{Metrics}
 use Rattle.signal.specs.State.{zeroState}
@@ -39,7 +39,7 @@ judged-outcome : (s : State) (xs : List Float) (done : Left) → done .answer .o
 unfolding unlessRefused outcomeOf ifDone
 judged-outcome s xs done e = go (tooLong (length xs)) (onGrid (length xs))
   where
-    go : (long grid : Bool) → cond (eqb (numberOf (chain long grid)) 0) done (left (answer (chain long grid) s) xs) .answer .outcome ≡ chain long grid
+    go : (long grid : Bool) → ifDone (chain long grid) done (left (answer (chain long grid) s) xs) .answer .outcome ≡ chain long grid
     go true grid = refl
     go false false = refl
     go false true = e
@@ -54,7 +54,7 @@ unfolding unlessRefused
 judged-by s xs done o ended = rw ended
 
 stays : (s : State) (xs : List Float) (done : Left) (o : Outcome) → o ≡ outcomeOf (length xs) false → (numberOf o ≡ 0 → ⊥) → unlessRefused s xs done ≡ left (answer o s) xs
-stays s xs done o ended n = judged-by s xs done o ended ∙ kept o done (left (answer o s) xs) (numberOf o) refl n
+stays s xs done o ended n = judged-by s xs done o ended ∙ if-refused o done (left (answer o s) xs) (numberOf o) refl n
 
 zero-or-not : (k : ℕ) → (k ≡ 0) ⊎ (k ≡ 0 → ⊥)
 zero-or-not zero = inl refl
@@ -87,7 +87,7 @@ module _ (wave : Wave) (amplitude frequency cycle : Float) (xs : List Float) whe
         ∙ stays zeroState xs _ o ended n
 
     zero-where-refused : x ≡ ifDone o x zeroMetrics
-    zero-where-refused = ⊎-elim (λ z. sym (changed o x zeroMetrics (numberOf o) refl z)) (λ n. ap (λ (l : Left). metricsIn (l .answer)) (last-refused n) ∙ sym (kept o x zeroMetrics (numberOf o) refl n)) (zero-or-not (numberOf o))
+    zero-where-refused = ⊎-elim (λ z. sym (if-done o x zeroMetrics (numberOf o) refl z)) (λ n. ap (λ (l : Left). metricsIn (l .answer)) (last-refused n) ∙ sym (if-refused o x zeroMetrics (numberOf o) refl n)) (zero-or-not (numberOf o))
 
     pub measured-told : (m : Metrics) (ys : List Float) → told m ys ≡ partOf metricsIn last → told (metricsAnswer o m) ys ≡ partOf metricsTold last
     measured-told m ys read =
@@ -108,7 +108,10 @@ module _ (voltage current : Float) (frequency : Reading) (next : Float) (xs : Li
 
   set-outcome : set .answer .outcome ≡ outcomeOf (length xs) false
   unfolding newPortOf
-  set-outcome = judged-outcome zeroState xs _ refl
+  set-outcome =
+      let l = newOf highest DC voltage zero32 xs in
+      let e : l .answer .outcome ≡ outcomeOf (length xs) false = remade-outcome highest _ _ xs in
+      if-either (λ (m : Left). m .answer .outcome ≡ outcomeOf (length xs) false) (l .answer .outcome) _ l e e
 
   pub powered-told : (o : Outcome) (w v : Float) (ys : List Float) → o ≡ outcomeOf (length xs) false → told w ys ≡ partOf powerIn set → v ≡ ifDone o w zero32 → told (powerAnswer o v) ys ≡ partOf powerTold set
   powered-told o w v ys ended read e =

@@ -48,13 +48,12 @@ phase-length top s phase xs = remade-length top _ _ xs
 pub duty-length : (top : ℕ) (s : State) (duty : Float) (xs : List Float) → length (dutySet top s duty xs .places) ≡ length xs
 duty-length top s duty xs = remade-length top _ _ xs
 
-either-length : (b : Bool) (a : Answer) (l : Left) → length (cond b (left a (l .places)) l .places) ≡ length (l .places)
-either-length true a l = refl
-either-length false a l = refl
-
 pub port-length : (top : ℕ) (voltage current : Float) (frequency : Reading) (xs : List Float) → length (newPortOf top voltage current frequency xs .places) ≡ length xs
-unfolding newPortOf ifDone
-port-length top voltage current frequency xs = either-length _ _ (newOf top DC voltage zero32 xs) ∙ new-length top DC voltage zero32 xs
+unfolding newPortOf
+port-length top voltage current frequency xs =
+    let l = newOf top DC voltage zero32 xs in
+    let e = new-length top DC voltage zero32 xs in
+    if-either (λ (m : Left). length (m .places) ≡ length xs) (l .answer .outcome) _ l e e
 
 pub reset-length : (s : State) (xs : List Float) → length (resetOf s xs .places) ≡ length xs
 unfolding resetOf

@@ -3,7 +3,7 @@ use mathlib.Core.List.{List}
 use lib.Ieee.{Float}
 use Rattle.answers.specs.declared.Measured.{Measured}
 use Rattle.laws.specs.Literals.{zero32}
-use Rattle.spectrum.specs.Spectrum.{ifDone}
+use Rattle.answers.specs.Numbers.{ifDone}
 use Rattle.signal.specs.declared.Answer.{Answer}
 use Rattle.signal.specs.declared.Metrics.{Metrics}
 use Rattle.signal.specs.State.{metricsOf, zeroFigures}

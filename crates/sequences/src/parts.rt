@@ -2,7 +2,7 @@
 ghost use mathlib.Core.Path.{_≡_};
 ghost use mathlib.Core.List.{[], _∷_};
 ghost use Rattle.laws.specs.Literals.{zero32};
-ghost use Rattle.spectrum.specs.Spectrum.{ifDone};
+ghost use Rattle.answers.specs.Numbers.{ifDone};
 ghost use Rattle.signal.specs.Calls.{highest, newOf, newPortOf};
 ghost use Rattle.signal.specs.Sequence as Sequence;
 ghost use Rattle.sequences.specs.Told.{told, partOf, withVoltage, metricsIn, powerIn};
