@@ -97,7 +97,7 @@ at-is-faulted = 24
 abbrev pub at-temperature : ℕ
 at-temperature = 25
 
--- ---- there and back: for `put` and its laws; no contract cites these
+-- ---- there and back: for `put` and for laws; no contract cites these
 abbrev pub cells : Port → List Cell
 cells p =
     number (p .voltage) ∷
