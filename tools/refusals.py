@@ -2,7 +2,7 @@
 """Says why each must-fail edit was refused, after `rt must-fail` or `rt ci`: its label and the first error of its log.
 An edit after which a need of the proof has no name any more, or a place of the code is not where the proof looks for it, only
 made the proof unfit for the code and shows nothing: such a one is marked WEAK, and the program ends with status 1. An edit with a
-line '# refuses: F G ..' makes one wrong change in each of these functions, and is WEAK unless each of them was refused.
+line '# refuses: F G ..' makes one wrong change in each of these functions, or one that each of these laws is about, and is WEAK unless each was refused.
 An edit whose log has no error, or that has no log, counts as WEAK too. Logs of an earlier run are not told from those of the last.
 usage: refusals.py [CRATE..]   in the repository's root"""
 import pathlib
@@ -26,7 +26,7 @@ for path in sorted(pathlib.Path("crates").glob("*/must-fail/*.edit")):
     errors.sort(key=lambda error: "was not admitted" in error[1])  # a caller's, last
     named = re.findall(r"^# refuses: (.*)$", path.read_text(encoding="utf-8"), re.M)
     # refused for itself, and not only because a function that it calls was
-    own = r"^fn \S*::{0}: (?:not proved$|no proof: .*does not close)|/{0}/Proof\.antt:\d+:\d+: error: (?!.*was not admitted)"
+    own = r"^fn \S*::{0}: (?:not proved$|no proof: .*does not close)|/(?:{0}/Proof\.antt:\d+:\d+: error: |\w+\.antt:\d+:\d+: error: `{0}`: )(?!.*was not admitted)"
     passed = [f for f in " ".join(named).split() if not re.search(own.format(f), text, re.M)]
     mark = "WEAK" if WEAK.search(text) or passed or not errors else "ok"
     weak += mark == "WEAK"

@@ -14,7 +14,7 @@ use Rattle.number.specs.Number.{narrowedRoot}
 use Rattle.power.specs.Power.{aboveZero}
 use Rattle.laws.specs.Quotients.{ratioOrZero}
 use Rattle.laws.specs.Whole.{gap, signed, value}
-use Rattle.accuracy.specs.Accuracy.{Within, sign}
+use Rattle.accuracy.specs.Accuracy.{Within, sign, ActiveNear, AtMost, near-p, most-pf}
 use Rattle.laws.proofs.Ratio.{Ratio, after, weaken}
 use Rattle.laws.proofs.Signs.{signed-scale, size-neg, minus-le, minus-ge}
 use Rattle.laws.proofs.Squares.{root-le}
@@ -60,16 +60,16 @@ value-null (fin s m e) h = ap (λ (k : ℕ). signed s k) (ap (λ (k : ℕ). k * 
 
 -- ---- active power
 pub active-bound : (p : Float) (s : Bool) (w : ℤ) (n : ℕ) → signed s (natAbs w) ≡ w → Found p s (natAbs w) n p-l p-h p-k (2 ^ 18) (2 ^ 48)
-    → natAbs (pos n *ℤ value p -ℤ w *ℤ pos (den p)) * 2 ^ 23 ≤ natAbs w * den p
+    → ActiveNear near-p n w p
 active-bound p s w n e f =
     let r = weaken (num p) (den p) (natAbs w) n p-l p-h p-k (2 ^ 23 - 1) (2 ^ 23 + 1) (2 ^ 23) (lit< tt) (lit< tt) (lit≤ tt) (lit≤ tt) (f .ratio) in
     let a : pos n *ℤ value p ≡ signed s (num p * n) = ap (λ (z : ℤ). pos n *ℤ z) (value-is p s (f .is)) ∙ *ℤ-comm (pos n) (signed s (num p)) ∙ signed-scale s (num p) n in
     let b : w *ℤ pos (den p) ≡ signed s (natAbs w * den p) = ap (λ (z : ℤ). z *ℤ pos (den p)) (sym e) ∙ signed-scale s (natAbs w) (den p) in
     subst (λ (k : ℕ). k * 2 ^ 23 ≤ natAbs w * den p) (sym (ap₂ (λ (x y : ℤ). natAbs (x -ℤ y)) a b ∙ gap-signed s (num p * n) (natAbs w * den p))) (ratio-gap (num p) (den p) (natAbs w) n (2 ^ 23) r)
 
-pub active-null : (p : Float) (w : ℤ) (n : ℕ) → w ≡ pos 0 → Null p → natAbs (pos n *ℤ value p -ℤ w *ℤ pos (den p)) * 2 ^ 23 ≤ natAbs w * den p
+pub active-null : (p : Float) (w : ℤ) (n : ℕ) → w ≡ pos 0 → Null p → ActiveNear near-p n w p
 active-null p w n e h =
-    subst (λ (k : ℤ). natAbs k * 2 ^ 23 ≤ natAbs w * den p)
+    subst (λ (k : ℤ). natAbs k * 2 ^ near-p ≤ natAbs w * den p)
     (sym (ap₂ (λ (x y : ℤ). pos n *ℤ x -ℤ y *ℤ pos (den p)) (value-null p h) e ∙ ap₂ (λ (x y : ℕ). pos x -ℤ pos y) (mul-zero n) (zero-mul (den p))))
     zero-le
 
@@ -197,7 +197,7 @@ factor-bound f b w v r =
     ratio-gap (num f * num f) (den f * den f) w v (2 ^ 20)
     (weaken (num f * num f) (den f * den f) w v _ _ _ (2 ^ 20 - 1) (2 ^ 20 + 1) (2 ^ 20) (lit< tt) (lit< tt) (lit≤ tt) (lit≤ tt) (r .ratio))
 
-pub size-bound : (f : Float) (b : Bool) (w v : ℕ) → 0 < v → w ≤ v → FoundSquare f b w v (2 ^ 28 - 168) (2 ^ 28 + 168) (2 ^ 28) (2 ^ 72) (2 ^ 72) → num f * 2 ^ 21 ≤ (2 ^ 21 + 1) * den f
+pub size-bound : (f : Float) (b : Bool) (w v : ℕ) → 0 < v → w ≤ v → FoundSquare f b w v (2 ^ 28 - 168) (2 ^ 28 + 168) (2 ^ 28) (2 ^ 72) (2 ^ 72) → AtMost most-pf f
 size-bound f b w v V+ l r =
     let n = num f * num f in
     let d = den f * den f in

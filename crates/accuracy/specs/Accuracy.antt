@@ -80,13 +80,29 @@ SignOf w f = sign (value f) ≡ sign w
 abbrev pub AtMost : ℕ → Float → Type 0
 AtMost k f = num f * 2 ^ k ≤ (2 ^ k + 1) * den f
 
+-- demand 3's powers of two: how near p, s, q and pf are, and by how much the size of pf may be above 1
+abbrev pub near-p : ℕ
+near-p = 23
+
+abbrev pub near-s : ℕ
+near-s = 21
+
+abbrev pub near-q : ℕ
+near-q = 20
+
+abbrev pub near-pf : ℕ
+near-pf = 20
+
+abbrev pub most-pf : ℕ
+most-pf = 21
+
 -- the record r of n pairs with the sums v and i of squares and w of products; and no figure is an infinity or a NaN
 pub record Bounds (n v i : ℕ) (w : ℤ) (r : Power) : Type 0 where
-  pub active : ActiveNear 23 n w (r .p)
-  pub apparent : ApparentNear 21 n v i (r .s)
-  pub reactive : ReactiveNear 20 n v i w (r .q)
-  pub factor : FactorNear 20 v i w (r .pf)
-  pub signed : SignOf w (r .pf) × AtMost 21 (r .pf)
+  pub active : ActiveNear near-p n w (r .p)
+  pub apparent : ApparentNear near-s n v i (r .s)
+  pub reactive : ReactiveNear near-q n v i w (r .q)
+  pub factor : FactorNear near-pf v i w (r .pf)
+  pub signed : SignOf w (r .pf) × AtMost most-pf (r .pf)
   pub numbers : T (finite (r .p)) × T (finite (r .q)) × T (finite (r .s)) × T (finite (r .pf))
 
 -- ---- the claims
