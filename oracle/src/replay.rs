@@ -21,7 +21,8 @@ const DATA: &str = concat!(env!("CARGO_MANIFEST_DIR"), "/../crates/replay/data")
 /// The most places of a list whose numbers stand in the line one by one.
 const ROOM: usize = 32;
 
-/// The files: the name, the seed, 01's item, and what makes the lines.
+/// The files: the name, the seed, the number by which the program finds the call, and what makes the lines. That number is 01's item; 12 is for sequences on a
+/// signal that keeps its samples, and 0 for the limits.
 const FILES: [(&str, u64, u32, fn(&mut Lines)); 17] = [
     ("number", 101, 1, number),
     ("samples", 102, 2, samples),
@@ -36,7 +37,7 @@ const FILES: [(&str, u64, u32, fn(&mut Lines)); 17] = [
     ("capture", 111, 11, captures::capture),
     ("codes", 112, 4, captures::codes),
     ("report", 113, 11, captures::report),
-    ("held", 112, 12, held),
+    ("held", 117, 12, held),
     ("limits", 114, 0, limits::slices),
     ("signal_limits", 115, 0, limits::signals),
     ("capture_limits", 116, 0, limits::captures),

@@ -7,6 +7,7 @@ use crate::lines;
 use crate::mutate::{self, mutate};
 use crate::report;
 use crate::signal::compute_power;
+use tilljingle::raw::Read;
 
 /// A voltage and a current code in a word.
 pub fn pairs(volts: &[i16], amps: &[i16]) -> Vec<u32> {
@@ -86,7 +87,7 @@ pub fn capture(lines: &mut Lines) {
 }
 
 /// Reads a capture into so many places of 20.
-fn read_into(lines: &mut Lines, text: &[u8], nv: usize, na: usize) -> lines::Read {
+fn read_into(lines: &mut Lines, text: &[u8], nv: usize, na: usize) -> Read {
     let (mut volts, mut amps) = ([7; 20], [8; 20]);
     let read = lines::read(text, &mut volts[..nv], &mut amps[..na]);
     let mut words = vec![text.len() as u32, nv as u32, na as u32];
