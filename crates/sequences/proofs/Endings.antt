@@ -26,6 +26,7 @@ use Rattle.signal.specs.declared.Metrics.{Metrics}
 use Rattle.signal.specs.State.{zeroState}
 use Rattle.signal.specs.Calls.{Left, left, answer, highest, unlessRefused, made, remade, newOf, dutySet, newPortOf}
 use Rattle.signal.specs.Sequence.{run, setting, duty}
+use Rattle.signal.proofs.Ends.{refused}
 use Rattle.sequences.specs.declared.MetricsAnswer.{MetricsAnswer}
 use Rattle.sequences.specs.Told.{Told, told, partOf, withVoltage, metricsIn, powerIn, zeroMetrics, metricsTold, powerTold}
 use Rattle.sequences.proofs.Lengths.{new-length}
@@ -49,12 +50,8 @@ unfolding remade made
 remade-outcome top earlier next xs = judged-outcome earlier xs (made top next xs) refl
 
 -- a refused call answers the state it was given
-judged-by : (s : State) (xs : List Float) (done : Left) (o : Outcome) → o ≡ outcomeOf (length xs) false → unlessRefused s xs done ≡ ifDone o done (left (answer o s) xs)
-unfolding unlessRefused
-judged-by s xs done o ended = rw ended
-
 stays : (s : State) (xs : List Float) (done : Left) (o : Outcome) → o ≡ outcomeOf (length xs) false → (numberOf o ≡ 0 → ⊥) → unlessRefused s xs done ≡ left (answer o s) xs
-stays s xs done o ended n = judged-by s xs done o ended ∙ if-refused o done (left (answer o s) xs) (numberOf o) refl n
+stays s xs done o ended n = sym (refused s xs done o (numberOf o) ended refl n)
 
 zero-or-not : (k : ℕ) → (k ≡ 0) ⊎ (k ≡ 0 → ⊥)
 zero-or-not zero = inl refl

@@ -1,6 +1,6 @@
 -- Laws that the proofs cite. Assumes nothing.
 mod Whole
-mod Ends
+pub mod Ends
 pub mod Sequence
 pub mod SequencePort
 pub mod Shown
