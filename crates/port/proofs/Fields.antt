@@ -11,7 +11,7 @@ use lib.Dec.{eqb}
 use lib.ListN.{length, set, getD}
 use lib.Seq.{getD-set-same, getD-set-other}
 use Rattle.port.specs.declared.Port.{Port}
-use Rattle.port.specs.Fields.{Cell, number, reading, places, flag, cells, cellAt, numberIn, slotIn, placesIn, flagIn, portWith, put, Row, row, puts}
+use Rattle.port.specs.Fields.{Cell, number, reading, places, flag, cells, cellAt, numberIn, slotIn, placesIn, flagIn, portWith, put, SetTo, setTo, puts}
 
 -- so `cells` tells any two ports apart
 pub whole : (p : Port) → portWith (cells p) ≡ p
@@ -95,14 +95,14 @@ pub same-kind : (p q : Port) (i : ℕ) → kind (cellAt (cells p) i) ≡ kind (c
 same-kind p q i = kind-in (cells p) i ∙ sym (kind-in (cells q) i)
 
 -- each row names a field and holds what that field holds
-abbrev pub Fits : Port → List Row → Type 0
+abbrev pub Fits : Port → List SetTo → Type 0
 Fits p [] = Unit
-Fits p (row i x ∷ rows) = (i < 26) × ((kind x ≡ kind (cellAt (cells p) i)) × Fits p rows)
+Fits p (setTo i x ∷ rows) = (i < 26) × ((kind x ≡ kind (cellAt (cells p) i)) × Fits p rows)
 
 -- what stands at i after the rows: what the last row that names i holds, and x where none does
-abbrev pub laid : List Row → ℕ → Cell → Cell
+abbrev pub laid : List SetTo → ℕ → Cell → Cell
 laid [] i x = x
-laid (row j y ∷ rows) i x = laid rows i (cond (eqb j i) y x)
+laid (setTo j y ∷ rows) i x = laid rows i (cond (eqb j i) y x)
 
 set-at : (l : List Cell) (j i : ℕ) (y : Cell) → j < length l → cellAt (set l j y) i ≡ cond (eqb j i) y (cellAt l i)
 set-at l j i y h = go (eqb j i) refl
@@ -114,12 +114,12 @@ set-at l j i y h = go (eqb j i) refl
 pub put-at : (p : Port) (j : ℕ) (y : Cell) → j < 26 → kind y ≡ kind (cellAt (cells p) j) → (i : ℕ) → cellAt (cells (put p j y)) i ≡ cond (eqb j i) y (cellAt (cells p) i)
 put-at p j y h k i = ap (λ (l : List Cell). cellAt l i) (put-is-set p j h y k) ∙ set-at (cells p) j i y h
 
-fits-in : (p q : Port) (rows : List Row) → Fits p rows → Fits q rows
+fits-in : (p q : Port) (rows : List SetTo) → Fits p rows → Fits q rows
 fits-in p q [] f = tt
-fits-in p q (row i x ∷ rows) f = (f .0, (f .1 .0 ∙ same-kind p q i, fits-in p q rows (f .1 .1)))
+fits-in p q (setTo i x ∷ rows) f = (f .0, (f .1 .0 ∙ same-kind p q i, fits-in p q rows (f .1 .1)))
 
 -- so the fields that the rows name are theirs, and all others stay
-pub puts-at : (p : Port) (rows : List Row) → Fits p rows → (i : ℕ) → cellAt (cells (puts p rows)) i ≡ laid rows i (cellAt (cells p) i)
+pub puts-at : (p : Port) (rows : List SetTo) → Fits p rows → (i : ℕ) → cellAt (cells (puts p rows)) i ≡ laid rows i (cellAt (cells p) i)
 puts-at p [] f i = refl
-puts-at p (row j y ∷ rows) f i =
+puts-at p (setTo j y ∷ rows) f i =
     puts-at (put p j y) rows (fits-in p (put p j y) rows (f .1 .1)) i ∙ ap (laid rows i) (put-at p j y (f .0) (f .1 .0) i)

@@ -192,10 +192,10 @@ abbrev pub put : Port → ℕ → Cell → Port
 put p i x = portWith (set (cells p) i x)
 
 -- a field, and what it is set to
-pub data Row : Type 0 where
-  row : ℕ → Cell → Row
+pub data SetTo : Type 0 where
+  setTo : ℕ → Cell → SetTo
 
 -- p with the rows laid into it from the first on, one setter after another: the fields that they name are theirs, all others stay (`puts-at`, `proofs/Fields.antt`)
-abbrev pub puts : Port → List Row → Port
+abbrev pub puts : Port → List SetTo → Port
 puts p [] = p
-puts p (row i x ∷ rows) = puts (put p i x) rows
+puts p (setTo i x ∷ rows) = puts (put p i x) rows

@@ -1,7 +1,7 @@
 // The readings of an electrical port, by value: each setting takes the port and gives it back.
 ghost use mathlib.Core.Path.{_≡_};
 ghost use mathlib.Core.List.{[], _∷_};
-ghost use Rattle.port.specs.Fields.{put, puts, row, number, reading, places, flag};
+ghost use Rattle.port.specs.Fields.{put, puts, setTo, number, reading, places, flag};
 ghost use Rattle.port.specs.Fields as Fields;
 ghost use Rattle.port.specs.Readings.{placeOf, withPlace, instantaneousPower, cleared};
 
@@ -401,7 +401,7 @@ impl Port {
         current_max: f32,
         power_max: f32,
     ) -> Self
-        ensures { λ r. ⌜ r ≡ puts self (row Fields.at-voltage-min (number «voltage_min») ∷ row Fields.at-voltage-max (number «voltage_max») ∷ row Fields.at-current-max (number «current_max») ∷ row Fields.at-power-max (number «power_max») ∷ []) ⌝ }
+        ensures { λ r. ⌜ r ≡ puts self (setTo Fields.at-voltage-min (number «voltage_min») ∷ setTo Fields.at-voltage-max (number «voltage_max») ∷ setTo Fields.at-current-max (number «current_max») ∷ setTo Fields.at-power-max (number «power_max») ∷ []) ⌝ }
     {
         self.voltage_min = voltage_min;
         self.voltage_max = voltage_max;
@@ -426,7 +426,7 @@ impl Port {
 
     // Both flags at once.
     pub fn set_state(mut self, is_enabled: bool, is_faulted: bool) -> Self
-        ensures { λ r. ⌜ r ≡ puts self (row Fields.at-is-enabled (flag «is_enabled») ∷ row Fields.at-is-faulted (flag «is_faulted») ∷ []) ⌝ }
+        ensures { λ r. ⌜ r ≡ puts self (setTo Fields.at-is-enabled (flag «is_enabled») ∷ setTo Fields.at-is-faulted (flag «is_faulted») ∷ []) ⌝ }
     {
         self.is_enabled = is_enabled;
         self.is_faulted = is_faulted;

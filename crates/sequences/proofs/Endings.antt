@@ -28,7 +28,7 @@ use Rattle.signal.specs.Calls.{Left, left, answer, highest, unlessRefused, made
 use Rattle.signal.specs.Sequence.{run, setting, duty}
 use Rattle.signal.proofs.Ends.{refused}
 use Rattle.sequences.specs.declared.MetricsAnswer.{MetricsAnswer}
-use Rattle.sequences.specs.Told.{Told, told, partOf, withVoltage, metricsIn, powerIn, zeroMetrics, metricsTold, powerTold}
+use Rattle.sequences.specs.Told.{Told, told, partOf, withVoltage, metricsIn, portPower, zeroMetrics, metricsTold, powerTold}
 use Rattle.sequences.proofs.Lengths.{new-length}
 
 -- ---- a call on samples ends as their number says
@@ -101,7 +101,7 @@ module _ (voltage current : Float) (frequency : Reading) (next : Float) (xs : Li
   set = withVoltage next (newPortOf highest voltage current frequency xs)
 
   abbrev y : Float
-  y = powerIn (set .answer)
+  y = portPower (set .answer)
 
   set-outcome : set .answer .outcome ≡ outcomeOf (length xs) false
   unfolding newPortOf
@@ -110,7 +110,7 @@ module _ (voltage current : Float) (frequency : Reading) (next : Float) (xs : Li
       let e : l .answer .outcome ≡ outcomeOf (length xs) false = remade-outcome highest _ _ xs in
       if-either (λ (m : Left). m .answer .outcome ≡ outcomeOf (length xs) false) (l .answer .outcome) _ l e e
 
-  pub powered-told : (o : Outcome) (w v : Float) (ys : List Float) → o ≡ outcomeOf (length xs) false → told w ys ≡ partOf powerIn set → v ≡ ifDone o w zero32 → told (powerAnswer o v) ys ≡ partOf powerTold set
+  pub powered-told : (o : Outcome) (w v : Float) (ys : List Float) → o ≡ outcomeOf (length xs) false → told w ys ≡ partOf portPower set → v ≡ ifDone o w zero32 → told (powerAnswer o v) ys ≡ partOf powerTold set
   powered-told o w v ys ended read e =
       ap (λ (z : Float). told (powerAnswer o z) ys) e ∙ ap (λ (t : Told Float). told (powerAnswer o (ifDone o (t .value) zero32)) (t .places)) read
       ∙ ap (λ (u : Outcome). told (powerAnswer u (ifDone u y zero32)) (set .places)) (ended ∙ sym set-outcome)

@@ -36,8 +36,8 @@ abbrev pub metricsIn : Answer → Metrics
 metricsIn a = metricsOf (a .state)
 
 -- 01, item 9, `instantaneous_power`: of the state's port
-abbrev pub powerIn : Answer → Float
-powerIn a = instantaneousPower (a .state .port)
+abbrev pub portPower : Answer → Float
+portPower a = instantaneousPower (a .state .port)
 
 -- ---- what the sequence answers: how its calls ended, and that; 01, "What a refusal returns is zero throughout"
 
@@ -48,4 +48,4 @@ abbrev pub metricsTold : Answer → MetricsAnswer
 metricsTold a = record { outcome = a .outcome; metrics = ifDone (a .outcome) (metricsIn a) zeroMetrics }
 
 abbrev pub powerTold : Answer → Measured
-powerTold a = record { outcome = a .outcome; value = ifDone (a .outcome) (powerIn a) zero32 }
+powerTold a = record { outcome = a .outcome; value = ifDone (a .outcome) (portPower a) zero32 }

@@ -5,7 +5,7 @@ ghost use Rattle.laws.specs.Literals.{zero32};
 ghost use Rattle.answers.specs.Numbers.{ifDone};
 ghost use Rattle.signal.specs.Calls.{highest, newOf, newPortOf};
 ghost use Rattle.signal.specs.Sequence as Sequence;
-ghost use Rattle.sequences.specs.Told.{told, partOf, withVoltage, metricsIn, powerIn};
+ghost use Rattle.sequences.specs.Told.{told, partOf, withVoltage, metricsIn, portPower};
 use answers::Outcome;
 use generator::Wave;
 use held::Signal;
@@ -35,7 +35,7 @@ pub fn power_after(
     next: f32,
     samples: &mut [f32],
 ) -> f32
-    ensures { λ r. ⌜ told r (now (samples .exit)) ≡ partOf powerIn (withVoltage next (newPortOf highest voltage current frequency (now (samples .entry)))) ⌝ }
+    ensures { λ r. ⌜ told r (now (samples .exit)) ≡ partOf portPower (withVoltage next (newPortOf highest voltage current frequency (now (samples .entry)))) ⌝ }
 {
     let mut signal = Signal::new_power_port(voltage, current, frequency, samples);
     signal.set_voltage(next);

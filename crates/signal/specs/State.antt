@@ -12,7 +12,7 @@ use Rattle.generator.specs.Sample.{shapeOf, half}
 use Rattle.port.specs.declared.Port.{Port}
 use Rattle.port.specs.declared.Reading.{Reading}
 use Rattle.port.specs.declared.Reading.the-variants.{Number, Absent}
-use Rattle.port.specs.Fields.{put, Row, row, puts, number, reading, flag, at-voltage, at-current, at-frequency, at-phase-angle, at-active-power, at-apparent-power, at-power-factor, at-displacement-pf, at-voltage-thd, at-voltage-crest-factor, at-is-enabled}
+use Rattle.port.specs.Fields.{put, SetTo, setTo, puts, number, reading, flag, at-voltage, at-current, at-frequency, at-phase-angle, at-active-power, at-apparent-power, at-power-factor, at-displacement-pf, at-voltage-thd, at-voltage-crest-factor, at-is-enabled}
 use Rattle.port.specs.Readings.{cleared}
 use Rattle.figures.specs.declared.TimeFigures.{TimeFigures}
 use Rattle.figures.specs.Figures.{answerOf}
@@ -98,11 +98,11 @@ unfoldable pub voltageOf : Wave → TimeFigures → Float
 voltageOf wave f = ofKind wave (f .average) (f .«dc_rms»)
 
 -- in the Rust's order
-abbrev pub levelRows : Float → Float → Float → List Row
+abbrev pub levelRows : Float → Float → Float → List SetTo
 levelRows voltage crest thd =
-    row at-voltage (number voltage) ∷
-    row at-voltage-crest-factor (reading (Number crest)) ∷
-    row at-voltage-thd (reading (Number thd)) ∷
+    setTo at-voltage (number voltage) ∷
+    setTo at-voltage-crest-factor (reading (Number crest)) ∷
+    setTo at-voltage-thd (reading (Number thd)) ∷
     []
 
 unfoldable pub levelled : Port → Float → Float → Float → Port
@@ -121,24 +121,24 @@ silenced s = record { shape = s .shape; port = levelled (s .port) zero32 zero32 
 
 -- ---- 01, item 10, `new_power_port`: the readings that it sets on a signal that `new` made, in the Rust's order
 
-abbrev pub portRows : Float → Float → Reading → List Row
+abbrev pub portRows : Float → Float → Reading → List SetTo
 portRows voltage current frequency =
     -- the Rust's `instantaneous_power()`, of the voltage and current that are set first
     let power = mul binary32 voltage current in
     -- the voltage and the current given
-    row at-voltage (number voltage) ∷
-    row at-current (number current) ∷
+    setTo at-voltage (number voltage) ∷
+    setTo at-current (number current) ∷
     -- the frequency given, a number or absent
-    row at-frequency (reading frequency) ∷
+    setTo at-frequency (reading frequency) ∷
     -- `Some(0.0)`
-    row at-phase-angle (reading (Number zero32)) ∷
+    setTo at-phase-angle (reading (Number zero32)) ∷
     -- the power, with its sign
-    row at-active-power (number power) ∷
+    setTo at-active-power (number power) ∷
     -- its size, `fabsf`
-    row at-apparent-power (reading (Number (abs power))) ∷
+    setTo at-apparent-power (reading (Number (abs power))) ∷
     -- `Some(1.0)`, both
-    row at-power-factor (reading (Number one32)) ∷
-    row at-displacement-pf (reading (Number one32)) ∷
+    setTo at-power-factor (reading (Number one32)) ∷
+    setTo at-displacement-pf (reading (Number one32)) ∷
     []
 
 -- nothing but the port changes

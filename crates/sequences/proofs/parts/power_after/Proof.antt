@@ -15,7 +15,7 @@ use Rattle.held.proofs.Signal.set_voltage.Symbol as set-def
 use Rattle.held.proofs.Signal.set_voltage.Met as set-thm
 use Rattle.held.proofs.Signal.instantaneous_power.Symbol as power-def
 use Rattle.held.proofs.Signal.instantaneous_power.Met as power-thm
-use Rattle.sequences.specs.Told.{told, partOf, withVoltage, powerIn}
+use Rattle.sequences.specs.Told.{told, partOf, withVoltage, portPower}
 use Rattle.sequences.proofs.Lengths.{port-length}
 use Rattle.sequences.proofs.Callees.{Making, Setting, Reading}
 use Rattle.sequences.proofs.ThenRead.{read-meets}
@@ -32,8 +32,8 @@ unfolding code.routine tablesOf
 power-after-spec 𝓤 H 𝓜 𝓖 𝓡 =
     entered 𝓤 H (tripleOf 𝓤 H (𝓖 .A) power-after.signature (power-after.spec 𝓤 H (𝓖 .A) (𝓜 .mem) (𝓡 .run)))
     (tables 𝓤 H 𝓜 𝓡 code.env .C) (tables 𝓤 H 𝓜 𝓡 code.env .Λ) name code.function (code.unfolded 𝓤 H 𝓜 𝓡)
-    (read-meets number number-laws number number-laws number number-laws reading reading-laws number number-laws (newPortOf highest) set powerIn (λ l r zs. told r zs ≡ partOf powerIn l) (λ l. refl) (port-length highest) (λ a v xs. refl)
+    (read-meets number number-laws number number-laws number number-laws reading reading-laws number number-laws (newPortOf highest) set portPower (λ l r zs. told r zs ≡ partOf portPower l) (λ l. refl) (port-length highest) (λ a v xs. refl)
     𝓤 H (𝓖 .A) (givenOf 𝓤 H 𝓜 𝓖) new-def.name set-def.name power-def.name (tablesOf 𝓤 H 𝓜 (tables 𝓤 H 𝓜 𝓡 code.env))
     (cited 𝓤 H (Making number number reading (newPortOf highest) 𝓤 H (𝓖 .A)) 𝓜 𝓡 code.env new-def.name new-def.routine code.calls-held·Signal·new-power-port (new-thm.met 𝓤 H 𝓜 𝓖 𝓡))
     (cited 𝓤 H (Setting number set 𝓤 H (𝓖 .A)) 𝓜 𝓡 code.env set-def.name set-def.routine code.calls-held·Signal·set-voltage (set-thm.met 𝓤 H 𝓜 𝓖 𝓡))
-    (cited 𝓤 H (Reading number powerIn 𝓤 H (𝓖 .A)) 𝓜 𝓡 code.env power-def.name power-def.routine code.calls-held·Signal·instantaneous-power (power-thm.met 𝓤 H 𝓜 𝓖 𝓡)))
+    (cited 𝓤 H (Reading number portPower 𝓤 H (𝓖 .A)) 𝓜 𝓡 code.env power-def.name power-def.routine code.calls-held·Signal·instantaneous-power (power-thm.met 𝓤 H 𝓜 𝓖 𝓡)))
