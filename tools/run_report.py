@@ -1,7 +1,7 @@
 #!/usr/bin/env python3
 """Runs the report program where no contract reaches, after `rt check report` or `rt ci`: how much of standard input it reads, and what it says where that or
 standard output fails. Each run's standard output and standard error must be, byte for byte, what document 01 and the operating system's texts say.
-On a machine that is not x86-64 the program runs under the kit's emulator, as tools/report.sh does.
+It runs with the kit's loader and C library, as `rt` runs it, and on a machine that is not x86-64 under the kit's emulator.
 usage: run_report.py [PROGRAM]   in the repository's root; the program is target/bin/report unless one is named"""
 import os
 import pathlib
@@ -10,11 +10,11 @@ import subprocess
 import sys
 import tempfile
 
-program = [sys.argv[1] if sys.argv[1:] else "target/bin/report"]
+kit = pathlib.Path(subprocess.run(["rt", "doc"], capture_output=True, text=True, check=True).stdout.strip()).parent.parent
+tools = kit / "on" / platform.machine() / "toolchain"
+program = [str(tools / "lib/ld-linux-x86-64.so.2"), "--library-path", str(tools / "lib"), sys.argv[1] if sys.argv[1:] else "target/bin/report"]
 if platform.machine() != "x86_64":
-    kit = pathlib.Path(subprocess.run(["rt", "doc"], capture_output=True, text=True, check=True).stdout.strip()).parent.parent
-    tools = kit / "on" / platform.machine() / "toolchain"
-    program = [str(tools / "bin/qemu-x86_64"), str(tools / "lib/ld-linux-x86-64.so.2"), "--library-path", str(tools / "lib")] + program
+    program.insert(0, str(tools / "bin/qemu-x86_64"))
 
 
 def line(number, pairs):
@@ -52,12 +52,12 @@ def held(what, found, wanted):
 
 for what, text, report in INPUTS:
     run = subprocess.run(program, input=text, capture_output=True)
-    held(what + ", through a pipe", (run.stdout, run.stderr), (report, b""))
+    held(what + ", through a pipe", (run.stdout, run.stderr, run.returncode), (report, b"", 0))
     with tempfile.TemporaryFile() as file:
         file.write(text)
         file.seek(0)
         run = subprocess.run(program, stdin=file, capture_output=True)
-    held(what + ", from a file", (run.stdout, run.stderr), (report, b""))
+    held(what + ", from a file", (run.stdout, run.stderr, run.returncode), (report, b"", 0))
 
 # nothing is printed of an input that cannot be read, and an output that cannot be written is told
 run = subprocess.run(program, capture_output=True, preexec_fn=lambda: os.close(0))

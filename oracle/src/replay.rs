@@ -324,6 +324,23 @@ fn power(lines: &mut Lines) {
             &said,
         );
     }
+    // an apparent power of 1e-12, and a bit above and below
+    for bits in [TINY - 1, TINY, TINY + 1] {
+        let (a, b) = (vec![1.0], vec![f32::from_bits(bits)]);
+        let (p, q, s, pf) = signal::compute_power(&a, &b, 1.0);
+        lines.line(
+            1,
+            &Given {
+                a,
+                b,
+                ..Given::default()
+            },
+            &Said {
+                floats: vec![p, q, s, pf],
+                ..Said::default()
+            },
+        );
+    }
 }
 
 /// The waves, and numbers past the last.
@@ -340,26 +357,46 @@ fn figures(lines: &mut Lines) {
         if round % 3 == 0 || a.is_empty() {
             lines.random.fill(Kind::Mixed, &mut earlier);
         }
-        let earlier = SignalMetrics::tail_from(&earlier);
-        let mut list = a.clone();
-        let mut signal = Signal::tail_over(wave_of(wave), amplitude, frequency, &earlier, &mut list);
-        signal.tail_calculate();
-        let floats = signal.get_metrics().tail_time().to_vec();
-        let mut words = vec![wave as u32, word(&amplitude), word(&frequency)];
-        words.extend(earlier.tail_time().iter().map(word));
-        lines.line(
-            1,
-            &Given {
-                words,
-                a,
-                ..Given::default()
-            },
-            &Said {
-                floats,
-                ..Said::default()
-            },
-        );
+        record(lines, wave, amplitude, frequency, &earlier, a);
     }
+    // at the limits: a fall that begins at the high threshold and ends at the low one; a NaN within a rise; a NaN frequency
+    record(lines, 0, 1.0, 1.0, &[0.0; 24], vec![0.0, 10.0, 9.0, 8.0, 1.0, 0.0]);
+    record(lines, 0, 1.0, 1.0, &[0.0; 24], vec![0.0, 5.0, f32::NAN, 10.0]);
+    record(lines, 2, 1.0, f32::NAN, &[0.0; 24], (0..12).map(|i| i as f32).collect());
+    // PWM's distance from the amplitude, strictly below 1e-6
+    record(lines, 1, 0.0, 1.0, &[0.0; 24], [MILLIONTH, MILLIONTH - 1].map(f32::from_bits).to_vec());
+    // a swing and a mean of 1e-12, and a bit above
+    for bits in [TINY - 1, TINY, TINY + 1] {
+        record(lines, 3, 0.0, 1.0, &[0.0; 24], vec![0.0, f32::from_bits(bits)]);
+        record(lines, 0, 0.0, 1.0, &[0.0; 24], vec![f32::from_bits(bits); 2]);
+    }
+}
+
+/// The bits of the f32 nearest to 1e-6 and to 1e-12.
+const MILLIONTH: u32 = 0x358637BD;
+const TINY: u32 = 0x2B8CBCCC;
+
+/// The 19 figures of these samples.
+fn record(lines: &mut Lines, wave: u8, amplitude: f32, frequency: f32, earlier: &[f32; 24], a: Vec<f32>) {
+    let earlier = SignalMetrics::tail_from(earlier);
+    let mut list = a.clone();
+    let mut signal = Signal::tail_over(wave_of(wave), amplitude, frequency, &earlier, &mut list);
+    signal.tail_calculate();
+    let floats = signal.get_metrics().tail_time().to_vec();
+    let mut words = vec![wave as u32, word(&amplitude), word(&frequency)];
+    words.extend(earlier.tail_time().iter().map(word));
+    lines.line(
+        1,
+        &Given {
+            words,
+            a,
+            ..Given::default()
+        },
+        &Said {
+            floats,
+            ..Said::default()
+        },
+    );
 }
 
 /// The sines of n places as 01 has them: whole numbers over 2^30.
@@ -433,46 +470,56 @@ fn quality(lines: &mut Lines) {
             2 => a.len(),
             _ => 1 + lines.random.below(4) as usize,
         };
-        let words = vec![(bin as u64 >> 32) as u32, bin as u32];
-        let floats = vec![signal::compute_thd_from_spectrum(&a, bin)];
-        let given = Given {
-            words,
-            a,
-            ..Given::default()
-        };
-        lines.line(
-            1,
-            &given,
-            &Said {
-                floats,
-                ..Said::default()
-            },
-        );
-        for (which, cut) in [(3, cut::cut_snr as fn(&[f32], usize) -> (u8, f64)), (4, cut::cut_sinad)] {
-            let (kind, wide) = cut(&given.a, bin);
-            lines.line(
-                which,
-                &given,
-                &Said {
-                    wide,
-                    floats: vec![kind as f32],
-                    ..Said::default()
-                },
-            );
-        }
-        let (kind, ratio) = cut::cut_sfdr(&given.a, bin);
-        lines.line(
-            5,
-            &given,
-            &Said {
-                floats: vec![kind as f32, ratio as f32],
-                ..Said::default()
-            },
-        );
+        quotients(lines, a, bin);
         let x = lines.random.sample(Kind::Mixed);
         lines.float(2, x, signal::compute_enob(x));
     }
+    // a fundamental and a spur of 1e-12, and a bit above and below
+    for bits in [TINY - 1, TINY, TINY + 1] {
+        quotients(lines, vec![0.0, f32::from_bits(bits), 3.0, 5.0], 1);
+        quotients(lines, vec![0.0, 3.0, f32::from_bits(bits), 0.0], 1);
+    }
     long::qualities(lines);
+}
+
+/// THD and the three quotients of a spectrum at a bin.
+fn quotients(lines: &mut Lines, a: Vec<f32>, bin: usize) {
+    let words = vec![(bin as u64 >> 32) as u32, bin as u32];
+    let floats = vec![signal::compute_thd_from_spectrum(&a, bin)];
+    let given = Given {
+        words,
+        a,
+        ..Given::default()
+    };
+    lines.line(
+        1,
+        &given,
+        &Said {
+            floats,
+            ..Said::default()
+        },
+    );
+    for (which, cut) in [(3, cut::cut_snr as fn(&[f32], usize) -> (u8, f64)), (4, cut::cut_sinad)] {
+        let (kind, wide) = cut(&given.a, bin);
+        lines.line(
+            which,
+            &given,
+            &Said {
+                wide,
+                floats: vec![kind as f32],
+                ..Said::default()
+            },
+        );
+    }
+    let (kind, ratio) = cut::cut_sfdr(&given.a, bin);
+    lines.line(
+        5,
+        &given,
+        &Said {
+            floats: vec![kind as f32, ratio as f32],
+            ..Said::default()
+        },
+    );
 }
 
 fn generator(lines: &mut Lines) {

@@ -49,6 +49,24 @@ static void check_new(void) {
   ARE(samples, pulses);
 }
 
+/* the frequency reading: absent for DC, whatever was given, and there for every other wave */
+static void check_new_frequency(void) {
+  tj_signal wanted = made(0, 3, 7);
+  wanted.figures.max = wanted.figures.min = wanted.figures.average = wanted.figures.dc_rms = 3;
+  wanted.figures.duty_cycle_pos = wanted.figures.crest_factor = wanted.figures.form_factor = 1;
+  wanted.port.voltage = 3;
+  wanted.port.voltage_crest_factor = reading(true, 1);
+  wanted.port.voltage_thd = reading(true, 0);
+  called("tj_signal_new");
+  answer_is(tj_signal_new(0, 3, 7, samples, 4), 0, wanted);
+  for (uint8_t wave = 1; wave < 4; wave++) {
+    tj_signal_answer got = tj_signal_new(wave, 8, 4, samples, N);
+    IS(got.code, 0);
+    IS(got.signal.wave, wave);
+    reading_is(got.signal.port.frequency, reading(true, 4));
+  }
+}
+
 /* constant 3: figures of a wave that never moves */
 static void check_new_power_port(void) {
   static const float constant[] = {3, 3, 3, 3};
@@ -175,6 +193,7 @@ static void check_refusals(void) {
 
 void check_signal(void) {
   check_new();
+  check_new_frequency();
   check_new_power_port();
   check_set_phase();
   check_set_duty_cycle();

@@ -195,7 +195,8 @@ put p i x = portWith (set (cells p) i x)
 pub data SetTo : Type 0 where
   setTo : ℕ → Cell → SetTo
 
--- p with the rows laid into it from the first on, one setter after another: the fields that they name are theirs, all others stay (`puts-at`, `proofs/Fields.antt`)
+-- p with the rows laid into it from the first on, one setter after another: the fields that they name are theirs, all others stay (`puts-at`, `proofs/Fields.antt`,
+-- for rows that have the kind of their field)
 abbrev pub puts : Port → List SetTo → Port
 puts p [] = p
 puts p (setTo i x ∷ rows) = puts (put p i x) rows
