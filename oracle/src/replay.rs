@@ -364,7 +364,14 @@ fn figures(lines: &mut Lines) {
     record(lines, 0, 1.0, 1.0, &[0.0; 24], vec![0.0, 5.0, f32::NAN, 10.0]);
     record(lines, 2, 1.0, f32::NAN, &[0.0; 24], (0..12).map(|i| i as f32).collect());
     // PWM's distance from the amplitude, strictly below 1e-6
-    record(lines, 1, 0.0, 1.0, &[0.0; 24], [MILLIONTH, MILLIONTH - 1].map(f32::from_bits).to_vec());
+    record(
+        lines,
+        1,
+        0.0,
+        1.0,
+        &[0.0; 24],
+        [MILLIONTH, MILLIONTH - 1].map(f32::from_bits).to_vec(),
+    );
     // a swing and a mean of 1e-12, and a bit above
     for bits in [TINY - 1, TINY, TINY + 1] {
         record(lines, 3, 0.0, 1.0, &[0.0; 24], vec![0.0, f32::from_bits(bits)]);
