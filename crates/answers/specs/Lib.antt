@@ -1,4 +1,5 @@
 -- What the contracts of every crate cite. Assumes nothing.
 pub mod Numbers
+pub mod Left
 pub mod Written
 pub mod Measured

@@ -10,6 +10,12 @@ pub enum Outcome {
     WrongForm,
     WrongSum,
     WrongSequence,
+    BinOutside,
+    UnknownEdition,
+    NoSuchRegister,
+    RegisterFull,
+    NoSuchFile,
+    OtherLengths,
 }
 
 // The longest slice of samples, codes or magnitudes that is read or filled, and the most pairs of a capture.
@@ -43,5 +49,11 @@ pub fn number_of(o: Outcome) -> u8
         Outcome::WrongForm => 5,
         Outcome::WrongSum => 6,
         Outcome::WrongSequence => 7,
+        Outcome::BinOutside => 8,
+        Outcome::UnknownEdition => 9,
+        Outcome::NoSuchRegister => 10,
+        Outcome::RegisterFull => 11,
+        Outcome::NoSuchFile => 12,
+        Outcome::OtherLengths => 13,
     }
 }
