@@ -5,11 +5,12 @@ use mathlib.Core.Path.{_≡_}
 use mathlib.Core.List.{List, map}
 use lib.Dec.{T}
 use lib.ListN.{length, getD}
-use lib.IntN.{ℤ, pos, negsuc, natAbs, _+ℤ_, _-ℤ_, _*ℤ_}
+use lib.IntN.{ℤ, pos, negsuc, natAbs, _-ℤ_, _*ℤ_}
 use lib.Ieee.{Float, nan, binary32, ofInt}
 use lib.Ieee.Scale.{finite}
 use lib.Ieee.Positive.{num, den}
 use Rattle.laws.specs.Whole.{value, Is}
+use Rattle.laws.specs.Products.{codeAt, products}
 use Rattle.number.specs.Nearest.{squared}
 use Rattle.answers.specs.declared.Outcome.the-variants.{Done}
 use Rattle.answers.specs.Numbers.{longest}
@@ -27,15 +28,7 @@ pub record Capture (v : List Float) (x : ℕ → ℤ) : Type 0 where
 abbrev pub samplesOf : List ℤ → List Float
 samplesOf z = map (λ (a : ℤ). ofInt binary32 a) z
 
-abbrev pub codeAt : List ℤ → ℕ → ℤ
-codeAt z k = getD z k (pos 0)
-
--- ---- exact arithmetic over the first n pairs
-
--- the sum of the products, W
-unfoldable pub products : (ℕ → ℤ) → (ℕ → ℤ) → ℕ → ℤ
-products x y zero = pos 0
-products x y (suc n) = products x y n +ℤ x n *ℤ y n
+-- ---- exact arithmetic over the first n pairs: W is the sum of the products (Products.antt of `laws`)
 
 -- the sum of the squares: V of the voltage, I of the current
 unfoldable pub squares : (ℕ → ℤ) → ℕ → ℕ

@@ -10,7 +10,8 @@ use Rattle.laws.specs.Quotients.{ratioOrZero}
 use Rattle.number.specs.Number.{narrow, root, narrowedRoot}
 use Rattle.power.specs.declared.Power.{Power}
 use Rattle.power.specs.Power.{sumTo, mean64, activeOf, apparentOf, aboveZero, reactiveOf, recordOf, powerOf}
-use Rattle.accuracy.specs.Accuracy.{samplesOf, codeAt, products, squares, ActiveNear, ApparentNear, ReactiveNear, FactorNear, AtMost}
+use Rattle.laws.specs.Products.{codeAt, products}
+use Rattle.accuracy.specs.Accuracy.{samplesOf, squares, ActiveNear, ApparentNear, ReactiveNear, FactorNear, AtMost}
 
 abbrev volts : List ℤ
 volts = pos 4 ∷ pos 4 ∷ pos 5 ∷ []

@@ -6,7 +6,7 @@ ghost use Rattle.answers.specs.Numbers.{longest};
 ghost use Rattle.figures.specs.Duty.{near, isHigh, highsOf, dutyOf};
 use generator::Wave;
 use number::parts::counted;
-use number::parts::tallied;
+use passes::parts::tallied;
 
 // Whether a sample is at the amplitude.
 fn is_near(amplitude: f32, x: f32) -> bool

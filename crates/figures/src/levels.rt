@@ -8,8 +8,8 @@ ghost use Rattle.answers.specs.Numbers.{longest};
 ghost use Rattle.laws.specs.Samples.{higher, lower};
 ghost use Rattle.laws.specs.Walks.{over};
 ghost use Rattle.figures.specs.Levels.{extremesOf, levelSums, rippleOf, levelsOf};
-use number::parts::lowered;
-use number::parts::raised;
+use passes::parts::lowered;
+use passes::parts::raised;
 use timing::parts::mean;
 
 pub struct Extremes {

@@ -15,7 +15,7 @@ pub fn crest(max: f32, min: f32, rms: f32) -> f32
     ensures { λ r. ⌜ r ≡ crestOf max min rms ⌝ }
 {
     ratio(
-        number::parts::raised(number::abs32(max), number::abs32(min)),
+        passes::parts::raised(number::abs32(max), number::abs32(min)),
         rms,
     )
 }

@@ -7,3 +7,4 @@ pub mod Front
 pub mod Literals
 pub mod Quotients
 pub mod Harmonics
+pub mod Products

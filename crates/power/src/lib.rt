@@ -54,10 +54,10 @@ fn of_capture(voltage: &[f32], current: &[f32]) -> Power
     if voltage.len() == 0 {
         return ZERO;
     }
-    if !number::parts::all_numbers(voltage) {
+    if !passes::parts::all_numbers(voltage) {
         return of_nan();
     }
-    if !number::parts::all_numbers(current) {
+    if !passes::parts::all_numbers(current) {
         return of_nan();
     }
     parts::of_sums(blocks::sums_of_numbers(voltage, current))

@@ -168,7 +168,7 @@ fn power_of_blocks(spectrum: &[f32], bin: usize, first: usize) -> Tally
         return Tally { sum, order: h };
     }
     while h + BLOCK <= spectrum.len() {
-        if !number::parts::numbers_in(spectrum, h, BLOCK) {
+        if !passes::parts::numbers_in(spectrum, h, BLOCK) {
             break;
         }
         sum = with_block(spectrum, h, sum);
@@ -329,7 +329,7 @@ fn spur(bin: usize, best: f32, i: usize, x: f32) -> f32
     if i == bin {
         return best;
     }
-    number::parts::raised(best, x)
+    passes::parts::raised(best, x)
 }
 
 // The largest spur of the places from 1 on.

@@ -12,7 +12,7 @@ fn on_parts(volts: &[i16], nv: usize, amps: &[i16], na: usize) -> PowerAnswer {
     let nv = read::least(nv, volts.len());
     let na = read::least(na, amps.len());
     let from = 0usize;
-    codes::power_of_codes(&volts[from..nv], &amps[from..na])
+    code_power::power_of_codes(&volts[from..nv], &amps[from..na])
 }
 
 pub fn power(volts: &[i16], nv: usize, amps: &[i16], na: usize) -> Said {

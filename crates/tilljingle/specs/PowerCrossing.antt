@@ -6,7 +6,7 @@ use Rattle.answers.specs.Numbers.{numberOf}
 use Rattle.power.specs.declared.PowerAnswer.{PowerAnswer}
 use Rattle.power.specs.Power.{answerOf}
 use Rattle.accuracy.specs.Accuracy.{samplesOf}
-use Rattle.codes.specs.Codes.{NearExact}
+use Rattle.code_power.specs.Codes.{NearExact}
 use Rattle.tilljingle.specs.declared.power_c.CodedPower.{CodedPower}
 
 abbrev pub codedPower : PowerAnswer → CodedPower

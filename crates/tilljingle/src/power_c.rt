@@ -28,7 +28,7 @@ pub extern "C" fn tj_compute_power(voltage: &[f32], current: &[f32], sample_rate
 pub extern "C" fn tj_power_of_codes(volts: &[i16], amps: &[i16]) -> CodedPower
     ensures { λ r. ⌜ CrossedCodes (now (volts .entry)) (now (amps .entry)) r ⌝ }
 {
-    let answer = codes::power_of_codes(volts, amps);
+    let answer = code_power::power_of_codes(volts, amps);
     let outcome = answer.outcome;
     let r = answer.power;
     CodedPower {

@@ -8,7 +8,7 @@ ghost use Rattle.laws.specs.Samples.{unsigned};
 ghost use Rattle.timing.specs.Timing.{totalOf, narrowedMean, risesAt, crossingsOf, frequencyFrom, frequencyAbout, slewStep, steepestOf, slewOf};
 ghost use Rattle.timing.specs.Steps.{NextAbove};
 use number::parts::counted;
-use number::parts::tallied;
+use passes::parts::tallied;
 
 // The sum of the samples, in the order of the index.
 pub fn total(samples: &[f32]) -> f64
@@ -147,7 +147,7 @@ fn steepest(samples: &[f32], dt: f32) -> f32
     let mut i = next_above(samples, 0.0, 1);
     while i < samples.len() {
         let w = step(samples[i - 1], samples[i]);
-        m = number::parts::raised(m, w / dt);
+        m = passes::parts::raised(m, w / dt);
         i = next_above(samples, w, i + 1);
     }
     m

@@ -1,7 +1,7 @@
--- `number::parts::tallied` meets its contract. Assumes nothing.
+-- `passes::parts::tallied` meets its contract. Assumes nothing.
 use borrow.Author.Needs.{needs}
-use Rattle.number.proofs.parts.tallied.Statement.{statement}
-use Rattle.number.proofs.parts.tallied.Tie as tie
+use Rattle.passes.proofs.parts.tallied.Statement.{statement}
+use Rattle.passes.proofs.parts.tallied.Tie as tie
 
 add-result : tie.Need-add-result
 add-result c = search needs

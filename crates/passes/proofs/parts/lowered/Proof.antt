@@ -1,7 +1,7 @@
--- `number::parts::lowered` meets its contract: each arm returns what the definition picks where the test is as the arm found it. Assumes nothing.
+-- `passes::parts::lowered` meets its contract: each arm returns what the definition picks where the test is as the arm found it. Assumes nothing.
 use Rattle.laws.specs.Samples.{lower}
-use Rattle.number.proofs.parts.lowered.Statement.{statement}
-use Rattle.number.proofs.parts.lowered.Tie as tie
+use Rattle.passes.proofs.parts.lowered.Statement.{statement}
+use Rattle.passes.proofs.parts.lowered.Tie as tie
 
 returns : tie.Need-returns
 unfolding lower

@@ -1,4 +1,4 @@
--- `number::parts::numbers_in` meets its contract. The loop's invariant: there are as many numbers as samples exactly where all so far are numbers. The measure is what is left. Assumes nothing.
+-- `passes::parts::numbers_in` meets its contract. The loop's invariant: there are as many numbers as samples exactly where all so far are numbers. The measure is what is left. Assumes nothing.
 use mathlib.Core.Path.{_≡_, refl, sym, ap, subst, _∙_}
 use mathlib.Core.Bool.{Bool, true, false, not, cond}
 use mathlib.Core.List.{List}
@@ -11,8 +11,8 @@ use lib.Ieee.{Float, nan, eq, ne}
 use Rattle.laws.specs.Walks.{over}
 use Rattle.laws.specs.Samples.{stillNumbers, numbersIn}
 use Rattle.laws.proofs.Numbers.{still-nan, still-number, numbers-in-next}
-use Rattle.number.proofs.parts.numbers_in.Statement.{statement}
-use Rattle.number.proofs.parts.numbers_in.Tie as tie
+use Rattle.passes.proofs.parts.numbers_in.Statement.{statement}
+use Rattle.passes.proofs.parts.numbers_in.Tie as tie
 
 -- a count that has fallen behind stays behind
 behind : (n k : ℕ) → n ≤ k → false ≡ eqb n (suc k)

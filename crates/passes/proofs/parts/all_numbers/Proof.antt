@@ -1,8 +1,8 @@
--- `number::parts::all_numbers` meets its contract. Assumes nothing.
+-- `passes::parts::all_numbers` meets its contract. Assumes nothing.
 use borrow.Author.Needs.{needs}
 use Rattle.laws.specs.Samples.{allNumbers}
-use Rattle.number.proofs.parts.all_numbers.Statement.{statement}
-use Rattle.number.proofs.parts.all_numbers.Tie as tie
+use Rattle.passes.proofs.parts.all_numbers.Statement.{statement}
+use Rattle.passes.proofs.parts.all_numbers.Tie as tie
 
 numbers-in-requires : tie.Need-numbers-in-requires
 numbers-in-requires c κs = search needs

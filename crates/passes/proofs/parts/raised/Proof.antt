@@ -1,7 +1,7 @@
--- `number::parts::raised` meets its contract: each arm returns what the definition picks where the test is as the arm found it. Assumes nothing.
+-- `passes::parts::raised` meets its contract: each arm returns what the definition picks where the test is as the arm found it. Assumes nothing.
 use Rattle.laws.specs.Samples.{higher}
-use Rattle.number.proofs.parts.raised.Statement.{statement}
-use Rattle.number.proofs.parts.raised.Tie as tie
+use Rattle.passes.proofs.parts.raised.Statement.{statement}
+use Rattle.passes.proofs.parts.raised.Tie as tie
 
 returns : tie.Need-returns
 unfolding higher

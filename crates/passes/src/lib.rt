@@ -1,0 +1,2 @@
+// What the crates that go over samples share.
+pub mod parts;
