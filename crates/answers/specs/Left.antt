@@ -7,3 +7,7 @@ pub record Left (A B : Type 0) : Type 0 where
 
 abbrev pub left : {A B : Type 0} → A → B → Left A B
 left a l = record { answer = a; places = l }
+
+-- the same places, and the answer in another form: as a caller or the C boundary gives it on
+abbrev pub answeredAs : {A B P : Type 0} → (A → B) → Left A P → Left B P
+answeredAs f l = left (f (l .answer)) (l .places)
