@@ -1,12 +1,9 @@
 -- How a signal crosses the boundary: its state as a flat record, a wave as its number, a port as PortCrossing has it. Definitions only.
-use mathlib.Core.List.{List}
-use lib.Ieee.{Float}
 use Rattle.answers.specs.Numbers.{numberOf}
 use Rattle.generator.specs.Sample.{shapeOf}
 use Rattle.generator.specs.Wave.{waveNumber, waveOf}
 use Rattle.signal.specs.declared.State.{State}
 use Rattle.signal.specs.declared.Answer.{Answer}
-use Rattle.signal.specs.Calls.{Left}
 use Rattle.crossing.specs.PortCrossing.{portIn, portOut}
 use Rattle.crossing.specs.declared.signals.TjSignal.{TjSignal}
 use Rattle.crossing.specs.declared.signals.CodedSignal.{CodedSignal}
@@ -34,14 +31,3 @@ stateOut s = record {
 
 unfoldable pub codedSignal : Answer → CodedSignal
 codedSignal a = record { code = numberOf (a .outcome); signal = stateOut (a .state) }
-
--- what a call answers, and the caller's samples afterwards
-pub record Sent : Type 0 where
-  pub answer : CodedSignal
-  pub places : List Float
-
-abbrev pub sent : CodedSignal → List Float → Sent
-sent a l = record { answer = a; places = l }
-
-abbrev pub crossedSignal : Left → Sent
-crossedSignal w = sent (codedSignal (w .answer)) (w .places)

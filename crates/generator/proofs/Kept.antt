@@ -5,7 +5,7 @@ use mathlib.Core.List.{List}
 use lib.ListN.{length}
 use lib.Ieee.{Float}
 use Rattle.answers.specs.Numbers.{tooLong}
-use Rattle.answers.specs.Written.{written}
+use Rattle.answers.specs.Left.{left}
 use Rattle.answers.specs.declared.Outcome.the-variants.{Done, TooLong}
 use Rattle.laws.specs.Filled.{filled}
 use Rattle.laws.proofs.Filling.{filled-length}
@@ -26,6 +26,6 @@ pub generated-length : (s : Shape) (xs : List Float) → length (generated s xs 
 unfolding generated
 generated-length s xs = either (tooLong (length xs))
   where
-    either : (b : Bool) → length (cond b (written TooLong xs) (written Done (filled (sampleAt s (length xs)) (length xs) xs)) .places) ≡ length xs
+    either : (b : Bool) → length (cond b (left TooLong xs) (left Done (filled (sampleAt s (length xs)) (length xs) xs)) .places) ≡ length xs
     either true = refl
     either false = filled-length (sampleAt s (length xs)) (length xs) xs

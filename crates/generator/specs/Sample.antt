@@ -6,7 +6,8 @@ use mathlib.Core.List.{List}
 use lib.ListN.{length}
 use lib.Ieee.{Float, binary32, add, sub, mul, div, rem, lt, le, ofBits}
 use Rattle.answers.specs.Numbers.{tooLong}
-use Rattle.answers.specs.Written.{Written, written}
+use Rattle.answers.specs.Left.{Left, left}
+use Rattle.answers.specs.declared.Outcome.{Outcome}
 use Rattle.answers.specs.declared.Outcome.the-variants.{Done, TooLong}
 use Rattle.laws.specs.Filled.{filled}
 use Rattle.laws.specs.Literals.{zero32, one32, count32}
@@ -89,5 +90,5 @@ unfoldable pub sampleAt : Shape → ℕ → ℕ → Float
 sampleAt s n i = ofWave (s .wave) s (count32 n) (count32 i)
 
 -- 01, row 3: "a slice of samples [..] filled by the generator, has more than 65,536 places", and "Nothing but 0 writes to what was lent"; else every place has its sample
-unfoldable pub generated : Shape → List Float → Written Float
-generated s xs = cond (tooLong (length xs)) (written TooLong xs) (written Done (filled (sampleAt s (length xs)) (length xs) xs))
+unfoldable pub generated : Shape → List Float → Left Outcome (List Float)
+generated s xs = cond (tooLong (length xs)) (left TooLong xs) (left Done (filled (sampleAt s (length xs)) (length xs) xs))

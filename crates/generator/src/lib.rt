@@ -2,7 +2,7 @@
 pub mod parts;
 
 ghost use mathlib.Core.Path.{_≡_};
-ghost use Rattle.answers.specs.Written.{written};
+ghost use Rattle.answers.specs.Left.{left};
 ghost use Rattle.generator.specs.Wave.{waveNumber, waveOf};
 ghost use Rattle.generator.specs.Sample.{shapeOf, generated};
 use answers::LONGEST;
@@ -62,7 +62,7 @@ pub fn generate_samples(
     duty_cycle: f32,
     samples: &mut [f32],
 ) -> Outcome
-    ensures { λ r. ⌜ written r (now (samples .exit)) ≡ generated (shapeOf wave amplitude phase frequency «duty_cycle») (now (samples .entry)) ⌝ }
+    ensures { λ r. ⌜ left r (now (samples .exit)) ≡ generated (shapeOf wave amplitude phase frequency «duty_cycle») (now (samples .entry)) ⌝ }
 {
     let n = samples.len();
     if LONGEST < n {

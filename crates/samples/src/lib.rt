@@ -3,7 +3,7 @@ ghost use mathlib.Core.Path.{_≡_};
 ghost use Prim.Native.Nat.{_+_, _≤_, _<_, min};
 ghost use lib.Ieee.{Float, binary32, add, mul};
 ghost use lib.ListN.{length};
-ghost use Rattle.answers.specs.Written.{written};
+ghost use Rattle.answers.specs.Left.{left};
 ghost use Rattle.samples.specs.Runs.{placesAtOnce, eachFrom, filledFrom};
 ghost use Rattle.samples.specs.Samples.{offsetBy, scaledBy, shortest, sumAt, addedInto};
 use answers::LONGEST;
@@ -26,7 +26,7 @@ fn offset_run(samples: &mut [f32], offset: f32, from: usize, count: usize)
 
 // Adds the offset to every sample.
 pub fn add_dc_offset(samples: &mut [f32], offset: f32) -> Outcome
-    ensures { λ r. ⌜ written r (now (samples .exit)) ≡ offsetBy offset (now (samples .entry)) ⌝ }
+    ensures { λ r. ⌜ left r (now (samples .exit)) ≡ offsetBy offset (now (samples .entry)) ⌝ }
 {
     let n = samples.len();
     if n > LONGEST {
@@ -55,7 +55,7 @@ fn scale_run(samples: &mut [f32], factor: f32, from: usize, count: usize)
 
 // Multiplies every sample by the factor.
 pub fn scale(samples: &mut [f32], factor: f32) -> Outcome
-    ensures { λ r. ⌜ written r (now (samples .exit)) ≡ scaledBy factor (now (samples .entry)) ⌝ }
+    ensures { λ r. ⌜ left r (now (samples .exit)) ≡ scaledBy factor (now (samples .entry)) ⌝ }
 {
     let n = samples.len();
     if n > LONGEST {
@@ -125,7 +125,7 @@ fn add_run(a: &[f32], b: &[f32], output: &mut [f32], from: usize, count: usize)
 
 // Puts a[j] + b[j] at place j of the output, up to the shortest of the three lengths. The output is not read, and may have any length.
 pub fn add_signals(a: &[f32], b: &[f32], output: &mut [f32]) -> Outcome
-    ensures { λ r. ⌜ written r (now (output .exit)) ≡ addedInto (now (a .entry)) (now (b .entry)) (now (output .entry)) ⌝ }
+    ensures { λ r. ⌜ left r (now (output .exit)) ≡ addedInto (now (a .entry)) (now (b .entry)) (now (output .entry)) ⌝ }
 {
     if a.len() > LONGEST {
         return Outcome::TooLong;

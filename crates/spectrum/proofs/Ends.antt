@@ -12,11 +12,11 @@ use Rattle.answers.specs.declared.Outcome.{Outcome}
 use Rattle.answers.specs.declared.Outcome.the-variants.{Done, OutputShort, TooLong, OffGrid}
 use Rattle.answers.specs.Numbers.{numberOf, ifDone, tooLong, refuse}
 use Rattle.answers.proofs.Ended.{if-refused, if-done}
-use Rattle.answers.specs.Written.{written}
+use Rattle.answers.specs.Left.{left}
 use Rattle.laws.specs.Filled.{filled}
 use Rattle.spectrum.specs.Grid.{onGrid}
 use Rattle.spectrum.specs.Spectrum.{outcomeOf, outputShort, bins, spectrumOf}
-use Rattle.spectrum.specs.Sines.{sineAt, worked, spectrumIn}
+use Rattle.spectrum.specs.Sines.{sineAt, spectrumIn}
 
 all-clear : (long grid short : Bool) → numberOf (refuse long TooLong (refuse (not grid) OffGrid (refuse short OutputShort Done))) ≡ 0
     → (grid ≡ true) × (short ≡ false)
@@ -31,14 +31,14 @@ unfolding outcomeOf
 none-holds n short o d e f z = all-clear (tooLong n) (onGrid n) short (sym (ap numberOf e) ∙ sym f ∙ z)
 
 module _ (xs out : List Float) (o : Outcome) (d : ℕ) (ended : o ≡ outcomeOf (length xs) (outputShort xs out)) (number : d ≡ numberOf o) where
-  left-in : (l : List Float) → ifDone o (bins xs out) out ≡ l → written o l ≡ spectrumOf xs out
+  left-in : (l : List Float) → ifDone o (bins xs out) out ≡ l → left o l ≡ spectrumOf xs out
   unfolding spectrumOf
   left-in l e = rw (← e, ended)
 
-  pub refused : (d ≡ 0 → ⊥) → written o out ≡ spectrumOf xs out
+  pub refused : (d ≡ 0 → ⊥) → left o out ≡ spectrumOf xs out
   refused n = left-in out (if-refused o (bins xs out) out d number n)
 
-  pub done : d ≡ 0 → (l : List Float) → l ≡ bins xs out → written o l ≡ spectrumOf xs out
+  pub done : d ≡ 0 → (l : List Float) → l ≡ bins xs out → left o l ≡ spectrumOf xs out
   done z l e = left-in l (if-done o (bins xs out) out d number z ∙ sym e)
 
 -- ---- with lent scratch
@@ -55,12 +55,12 @@ room-for-both xs w out e =
 
 module _ (xs w out : List Float) (o : Outcome) (d : ℕ) (ended : o ≡ outcomeOf (length xs) (outputShort xs out || ltb (length w) (length xs))) (number : d ≡ numberOf o) where
   left-in-both : (l v : List Float) → ifDone o (bins xs out) out ≡ l → ifDone o (filled (sineAt (length xs)) (length xs) w) w ≡ v
-      → worked o l v ≡ spectrumIn xs w out
+      → left o (l, v) ≡ spectrumIn xs w out
   unfolding spectrumIn
   left-in-both l v e f = rw (← e, ← f, ended)
 
-  pub refused-in : (d ≡ 0 → ⊥) → worked o out w ≡ spectrumIn xs w out
+  pub refused-in : (d ≡ 0 → ⊥) → left o (out, w) ≡ spectrumIn xs w out
   refused-in n = left-in-both out w (if-refused o (bins xs out) out d number n) (if-refused o (filled (sineAt (length xs)) (length xs) w) w d number n)
 
-  pub done-in : d ≡ 0 → (l v : List Float) → l ≡ bins xs out → v ≡ filled (sineAt (length xs)) (length xs) w → worked o l v ≡ spectrumIn xs w out
+  pub done-in : d ≡ 0 → (l v : List Float) → l ≡ bins xs out → v ≡ filled (sineAt (length xs)) (length xs) w → left o (l, v) ≡ spectrumIn xs w out
   done-in z l v e f = left-in-both l v (if-done o (bins xs out) out d number z ∙ sym e) (if-done o (filled (sineAt (length xs)) (length xs) w) w d number z ∙ sym f)

@@ -6,7 +6,7 @@ use Prim.Native.Nat.{_≤_}
 use lib.ListN.{length}
 use lib.Ieee.{Float}
 use borrow.Author.Tests.{le-ltb}
-use Rattle.answers.specs.Written.{written}
+use Rattle.answers.specs.Left.{left}
 use Rattle.spectrum.specs.Spectrum.{outputShort, spectrumOf}
 use Rattle.spectrum.specs.Sines.{spectrumIn}
 
@@ -15,6 +15,6 @@ or-false true = refl
 or-false false = refl
 
 pub same-figures : (xs w out : List Float) → length xs ≤ length w
-    → written (spectrumIn xs w out .outcome) (spectrumIn xs w out .places) ≡ spectrumOf xs out
+    → left (spectrumIn xs w out .answer) (spectrumIn xs w out .places .0) ≡ spectrumOf xs out
 unfolding spectrumIn spectrumOf
 same-figures xs w out h = rw (le-ltb (length w) (length xs) h, or-false (outputShort xs out))

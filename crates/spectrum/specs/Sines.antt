@@ -8,6 +8,7 @@ use lib.ListN.{length, getD}
 use lib.Ieee.{Float, nan}
 use Rattle.answers.specs.declared.Outcome.{Outcome}
 use Rattle.answers.specs.Numbers.{ifDone}
+use Rattle.answers.specs.Left.{Left, left}
 use Rattle.laws.specs.Filled.{filled}
 use Rattle.quarter.specs.Turn.{sineOf}
 use Rattle.spectrum.specs.Bin.{stepOf}
@@ -17,22 +18,13 @@ use Rattle.spectrum.specs.Spectrum.{outcomeOf, outputShort, bins}
 unfoldable pub sineAt : ℕ → ℕ → Float
 sineAt n j = sineOf (stepOf n j)
 
--- what a call leaves behind: how it ended, the output, and the scratch
-pub record Worked : Type 0 where
-  pub outcome : Outcome
-  pub places : List Float
-  pub scratch : List Float
-
-abbrev pub worked : Outcome → List Float → List Float → Worked
-worked o out w = record { outcome = o; places = out; scratch = w }
-
 -- `spectrumOf` with lent scratch: this call is ours and not in 01. The scratch must have a place for each sample, and after a call that is done
--- its first n places hold the n sines
-unfoldable pub spectrumIn : List Float → List Float → List Float → Worked
+-- its first n places hold the n sines. Behind the call lie the output and the scratch
+unfoldable pub spectrumIn : List Float → List Float → List Float → Left Outcome (List Float × List Float)
 spectrumIn xs w out =
     let n = length xs in
     let o = outcomeOf n (outputShort xs out || ltb (length w) n) in
-    worked o (ifDone o (bins xs out) out) (ifDone o (filled (sineAt n) n w) w)
+    left o (ifDone o (bins xs out) out, ifDone o (filled (sineAt n) n w) w)
 
 -- ---- for the loops alone: no public contract cites what follows
 

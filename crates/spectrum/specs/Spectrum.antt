@@ -8,7 +8,7 @@ use lib.Ieee.{Float, binary32, div, ofBits}
 use Rattle.answers.specs.declared.Outcome.{Outcome}
 use Rattle.answers.specs.declared.Outcome.the-variants.{Done, OutputShort, TooLong, OffGrid}
 use Rattle.answers.specs.Numbers.{ifDone, tooLong, refuse}
-use Rattle.answers.specs.Written.{Written, written}
+use Rattle.answers.specs.Left.{Left, left}
 use Rattle.laws.specs.Filled.{filled}
 use Rattle.spectrum.specs.Grid.{onGrid}
 use Rattle.spectrum.specs.Bin.{magnitudeOf}
@@ -33,7 +33,7 @@ abbrev pub bins : List Float → List Float → List Float
 bins xs out = filled (binOf xs) (length xs / 2) out
 
 -- 01, item 6, `dft_magnitude_spectrum`: how it ends, and the output with its bins where it is done; "Nothing but 0 writes to what was lent"
-unfoldable pub spectrumOf : List Float → List Float → Written Float
+unfoldable pub spectrumOf : List Float → List Float → Left Outcome (List Float)
 spectrumOf xs out =
     let o = outcomeOf (length xs) (outputShort xs out) in
-    written o (ifDone o (bins xs out) out)
+    left o (ifDone o (bins xs out) out)

@@ -4,12 +4,12 @@ ghost use mathlib.Core.Path.{_≡_};
 ghost use mathlib.Core.Bool.{true};
 ghost use Prim.Native.Nat.{_/_, _≤_};
 ghost use lib.ListN.{length};
-ghost use Rattle.answers.specs.Written.{written};
+ghost use Rattle.answers.specs.Left.{left};
 ghost use Rattle.laws.specs.Filled.{filled};
 ghost use Rattle.quarter.specs.Table.{quarterTable};
 ghost use Rattle.spectrum.specs.Grid.{onGrid};
 ghost use Rattle.spectrum.specs.Spectrum.{bins, spectrumOf};
-ghost use Rattle.spectrum.specs.Sines.{worked, sineAt, spectrumIn};
+ghost use Rattle.spectrum.specs.Sines.{sineAt, spectrumIn};
 
 pub mod parts;
 mod several;
@@ -31,7 +31,7 @@ fn fill(table: &[u32; 1025], samples: &[f32], output: &mut [f32])
 
 // The magnitude spectrum of the samples.
 pub fn dft_magnitude_spectrum(samples: &[f32], output: &mut [f32]) -> Outcome
-    ensures { λ r. ⌜ written r (now (output .exit)) ≡ spectrumOf (now (samples .entry)) (now (output .entry)) ⌝ }
+    ensures { λ r. ⌜ left r (now (output .exit)) ≡ spectrumOf (now (samples .entry)) (now (output .entry)) ⌝ }
 {
     let n = samples.len();
     let outcome = parts::judged(n, output.len() < n / 2);
@@ -65,7 +65,7 @@ pub fn dft_magnitude_spectrum_in(
     scratch: &mut [f64],
     output: &mut [f32],
 ) -> Outcome
-    ensures { λ r. ⌜ worked r (now (output .exit)) (now (scratch .exit))
+    ensures { λ r. ⌜ left r (now (output .exit), now (scratch .exit))
         ≡ spectrumIn (now (samples .entry)) (now (scratch .entry)) (now (output .entry)) ⌝ }
 {
     let n = samples.len();

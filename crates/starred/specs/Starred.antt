@@ -7,9 +7,10 @@ use lib.Count.{trailingZeros}
 use lib.IntN.{ℤ, pos, negsuc}
 use lib.Ieee.{Float, nan, binary32, add, sub, mul, div, neg, sum, round, units, odd, size, span, climb, lt, le, ofInt, ofBits, ofFields}
 use Rattle.answers.specs.declared.Measured.{Measured}
+use Rattle.answers.specs.declared.Outcome.{Outcome}
 use Rattle.answers.specs.declared.Outcome.the-variants.{Done, LengthsDiffer}
 use Rattle.answers.specs.Numbers.{ifDone}
-use Rattle.answers.specs.Written.{Written, written}
+use Rattle.answers.specs.Left.{Left, left}
 use Rattle.laws.specs.Filled.{filled}
 use Rattle.laws.specs.Front.{onto}
 use Rattle.laws.specs.Literals.{count32}
@@ -32,7 +33,7 @@ use Rattle.hex.specs.Digit.{within, isDigit, digitOf}
 use Rattle.hex.specs.Code.{codeOf}
 use Rattle.frame.specs.Line.{after, pairAt, wordAt, allDigits, sequenceOf, countOf, rightForm, sumOf, rightSum, lineOf, runCodes, codesBy, lineCodes}
 use Rattle.capture.specs.Lines.{add as addLine, cut, codesOf}
-use Rattle.capture.specs.Reading.{follows, weigh, judge, verdictOf, Left, left, settle, readCapture}
+use Rattle.capture.specs.Reading.{follows, weigh, judge, verdictOf, ReadLeft, settle, readCapture}
 
 -- ---- what is called, and what it answers
 
@@ -50,8 +51,8 @@ pub data Answer : Type 0 where
   powers : PowerAnswer → Answer
   value : Measured → Answer
   count : ℕ → Answer
-  bins : Written Float → Answer
-  codes : Left → Answer
+  bins : Left Outcome (List Float) → Answer
+  codes : ReadLeft → Answer
 
 -- how many samples the last rise has, of the edges that the time figures' rise and fall are worked out from
 abbrev pub riseSamples : List Float → ℕ
@@ -123,11 +124,11 @@ starred =
     -- "With one more 0 after them, 9."
     ∷ row (rise (ramp ++ (p 0 ∷ []))) (count 9)
     -- "Spectrum of 1, 0, -1, 0: 0 and 1."; a third place of output stays
-    ∷ row (spectrum (p 1 ∷ p 0 ∷ m 1 ∷ p 0 ∷ []) (old ∷ old ∷ old ∷ [])) (bins (written Done (p 0 ∷ p 1 ∷ old ∷ [])))
+    ∷ row (spectrum (p 1 ∷ p 0 ∷ m 1 ∷ p 0 ∷ []) (old ∷ old ∷ old ∷ [])) (bins (left Done (p 0 ∷ p 1 ∷ old ∷ [])))
     -- "Of 3, 1: 2."
-    ∷ row (spectrum (p 3 ∷ p 1 ∷ []) (old ∷ [])) (bins (written Done (p 2 ∷ [])))
+    ∷ row (spectrum (p 3 ∷ p 1 ∷ []) (old ∷ [])) (bins (left Done (p 2 ∷ [])))
     -- "`0000010001FFFF00` holds the pair 1, -1."; places past the pair stay
-    ∷ row (capture text (pos 7 ∷ pos 7 ∷ []) (pos 8 ∷ pos 8 ∷ [])) (codes (left (record { outcome = Done; line = 0; pairs = 1 }) (pos 1 ∷ pos 7 ∷ []) (negsuc 0 ∷ pos 8 ∷ [])))
+    ∷ row (capture text (pos 7 ∷ pos 7 ∷ []) (pos 8 ∷ pos 8 ∷ [])) (codes (left (record { outcome = Done; line = 0; pairs = 1 }) (pos 1 ∷ pos 7 ∷ [], negsuc 0 ∷ pos 8 ∷ [])))
     ∷ []
 
 -- ---- the statement

@@ -2,15 +2,10 @@
 ghost use mathlib.Core.Path.{_≡_};
 ghost use Rattle.figures.specs.Figures.{answerOf};
 ghost use Rattle.generator.specs.Wave.{waveOf};
-ghost use Rattle.tilljingle.specs.FiguresCrossing.{codedFigures};
+ghost use Rattle.crossing.specs.FiguresCrossing.{codedFigures};
+use crossing::times::CodedFigures;
+use crossing::times::figures_of;
 use figures::TimeFigures;
-
-// The number of the call's outcome, and the record.
-#[repr(C)]
-pub struct CodedFigures {
-    pub code: u8,
-    pub figures: TimeFigures,
-}
 
 #[no_mangle]
 pub extern "C" fn tj_calculate_time_figures(
@@ -23,11 +18,5 @@ pub extern "C" fn tj_calculate_time_figures(
     ensures { λ r. ⌜ r ≡ codedFigures (answerOf (waveOf wave) amplitude frequency earlier (now (samples .entry))) ⌝ }
 {
     let kind = generator::wave_of(wave);
-    let answer = figures::calculate_time_figures(kind, amplitude, frequency, earlier, samples);
-    let outcome = answer.outcome;
-    let r = answer.figures;
-    CodedFigures {
-        code: answers::number_of(outcome),
-        figures: r,
-    }
+    figures_of(figures::calculate_time_figures(kind, amplitude, frequency, earlier, samples))
 }

@@ -1,6 +1,7 @@
 // The generator.
 ghost use mathlib.Core.Path.{_≡_};
-ghost use Rattle.tilljingle.specs.Crossing.{numbered, crossed};
+ghost use Rattle.answers.specs.Numbers.{numberOf};
+ghost use Rattle.answers.specs.Left.{left, answeredAs};
 ghost use Rattle.generator.specs.Wave.{waveOf};
 ghost use Rattle.generator.specs.Sample.{shapeOf, generated};
 
@@ -13,7 +14,7 @@ pub extern "C" fn tj_generate_samples(
     duty_cycle: f32,
     samples: &mut [f32],
 ) -> u8
-    ensures { λ r. ⌜ numbered r (now (samples .exit)) ≡ crossed (generated (shapeOf (waveOf wave) amplitude phase frequency «duty_cycle») (now (samples .entry))) ⌝ }
+    ensures { λ r. ⌜ left r (now (samples .exit)) ≡ answeredAs numberOf (generated (shapeOf (waveOf wave) amplitude phase frequency «duty_cycle») (now (samples .entry))) ⌝ }
 {
     let kind = generator::wave_of(wave);
     answers::number_of(generator::generate_samples(

@@ -1,17 +1,14 @@
 // The report.
-use crate::capture_c::CodedWritten;
 ghost use mathlib.Core.Path.{_≡_};
 ghost use Rattle.reporting.specs.Report.{reportText};
-ghost use Rattle.tilljingle.specs.CaptureCrossing.{wroteLeft, crossedWrote};
+ghost use Rattle.answers.specs.Left.{left, answeredAs};
+ghost use Rattle.crossing.specs.CaptureCrossing.{codedWritten};
+use crossing::captures::CodedWritten;
+use crossing::captures::written_of;
 
 #[no_mangle]
 pub extern "C" fn tj_report_text(input: &[u8], text: &mut [u8]) -> CodedWritten
-    ensures { λ r. ⌜ wroteLeft r (now (text .exit)) ≡ crossedWrote (reportText (now (input .entry)) (now (text .entry))) ⌝ }
+    ensures { λ r. ⌜ left r (now (text .exit)) ≡ answeredAs codedWritten (reportText (now (input .entry)) (now (text .entry))) ⌝ }
 {
-    let answer = reporting::report_text(input, text);
-    let outcome = answer.outcome;
-    CodedWritten {
-        code: answers::number_of(outcome),
-        bytes: answer.bytes,
-    }
+    written_of(reporting::report_text(input, text))
 }

@@ -1,9 +1,10 @@
 // Signal: its state crosses as a flat record, a wave in it as its number. The caller's samples are lent beside it.
 ghost use mathlib.Core.Path.{_≡_};
+ghost use Rattle.answers.specs.Left.{left, answeredAs};
 ghost use Rattle.generator.specs.Wave.{waveOf};
 ghost use Rattle.signal.specs.Calls.{highest, newOf, newPortOf, phaseSet, dutySet, resetOf};
 ghost use Rattle.crossing.specs.PortCrossing.{readingIn};
-ghost use Rattle.crossing.specs.SignalCrossing.{stateIn, sent, crossedSignal};
+ghost use Rattle.crossing.specs.SignalCrossing.{stateIn, codedSignal};
 use crossing::readings;
 use crossing::readings::TjReading;
 use crossing::signals::CodedSignal;
@@ -18,7 +19,7 @@ pub extern "C" fn tj_signal_new(
     frequency: f32,
     samples: &mut [f32],
 ) -> CodedSignal
-    ensures { λ r. ⌜ sent r (now (samples .exit)) ≡ crossedSignal (newOf highest (waveOf wave) amplitude frequency (now (samples .entry))) ⌝ }
+    ensures { λ r. ⌜ left r (now (samples .exit)) ≡ answeredAs codedSignal (newOf highest (waveOf wave) amplitude frequency (now (samples .entry))) ⌝ }
 {
     let kind = generator::wave_of(wave);
     coded(signal::new(kind, amplitude, frequency, samples))
@@ -31,7 +32,7 @@ pub extern "C" fn tj_signal_new_power_port(
     frequency: TjReading,
     samples: &mut [f32],
 ) -> CodedSignal
-    ensures { λ r. ⌜ sent r (now (samples .exit)) ≡ crossedSignal (newPortOf highest voltage current (readingIn frequency) (now (samples .entry))) ⌝ }
+    ensures { λ r. ⌜ left r (now (samples .exit)) ≡ answeredAs codedSignal (newPortOf highest voltage current (readingIn frequency) (now (samples .entry))) ⌝ }
 {
     let reading = readings::reading_in(frequency);
     coded(signal::new_power_port(voltage, current, reading, samples))
@@ -43,7 +44,7 @@ pub extern "C" fn tj_signal_set_phase(
     phase: f32,
     samples: &mut [f32],
 ) -> CodedSignal
-    ensures { λ r. ⌜ sent r (now (samples .exit)) ≡ crossedSignal (phaseSet highest (stateIn signal) phase (now (samples .entry))) ⌝ }
+    ensures { λ r. ⌜ left r (now (samples .exit)) ≡ answeredAs codedSignal (phaseSet highest (stateIn signal) phase (now (samples .entry))) ⌝ }
 {
     let state = state_in(signal);
     coded(signal::set_phase(state, phase, samples))
@@ -55,7 +56,7 @@ pub extern "C" fn tj_signal_set_duty_cycle(
     duty_cycle: f32,
     samples: &mut [f32],
 ) -> CodedSignal
-    ensures { λ r. ⌜ sent r (now (samples .exit)) ≡ crossedSignal (dutySet highest (stateIn signal) «duty_cycle» (now (samples .entry))) ⌝ }
+    ensures { λ r. ⌜ left r (now (samples .exit)) ≡ answeredAs codedSignal (dutySet highest (stateIn signal) «duty_cycle» (now (samples .entry))) ⌝ }
 {
     let state = state_in(signal);
     coded(signal::set_duty_cycle(state, duty_cycle, samples))
@@ -63,7 +64,7 @@ pub extern "C" fn tj_signal_set_duty_cycle(
 
 #[no_mangle]
 pub extern "C" fn tj_signal_reset_waveform(signal: TjSignal, samples: &mut [f32]) -> CodedSignal
-    ensures { λ r. ⌜ sent r (now (samples .exit)) ≡ crossedSignal (resetOf (stateIn signal) (now (samples .entry))) ⌝ }
+    ensures { λ r. ⌜ left r (now (samples .exit)) ≡ answeredAs codedSignal (resetOf (stateIn signal) (now (samples .entry))) ⌝ }
 {
     let state = state_in(signal);
     coded(signal::reset_waveform(state, samples))

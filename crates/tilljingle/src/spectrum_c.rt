@@ -1,13 +1,13 @@
 // The magnitude spectrum, one bin at a time, and several at a time with lent scratch.
 ghost use mathlib.Core.Path.{_≡_};
-ghost use Rattle.tilljingle.specs.Crossing.{numbered, crossed};
-ghost use Rattle.tilljingle.specs.Scratch.{numberedIn, crossedIn};
+ghost use Rattle.answers.specs.Numbers.{numberOf};
+ghost use Rattle.answers.specs.Left.{left, answeredAs};
 ghost use Rattle.spectrum.specs.Spectrum.{spectrumOf};
 ghost use Rattle.spectrum.specs.Sines.{spectrumIn};
 
 #[no_mangle]
 pub extern "C" fn tj_dft_magnitude_spectrum(samples: &[f32], output: &mut [f32]) -> u8
-    ensures { λ r. ⌜ numbered r (now (output .exit)) ≡ crossed (spectrumOf (now (samples .entry)) (now (output .entry))) ⌝ }
+    ensures { λ r. ⌜ left r (now (output .exit)) ≡ answeredAs numberOf (spectrumOf (now (samples .entry)) (now (output .entry))) ⌝ }
 {
     answers::number_of(spectrum::dft_magnitude_spectrum(samples, output))
 }
@@ -18,8 +18,8 @@ pub extern "C" fn tj_dft_magnitude_spectrum_in(
     scratch: &mut [f64],
     output: &mut [f32],
 ) -> u8
-    ensures { λ r. ⌜ numberedIn r (now (output .exit)) (now (scratch .exit))
-        ≡ crossedIn (spectrumIn (now (samples .entry)) (now (scratch .entry)) (now (output .entry))) ⌝ }
+    ensures { λ r. ⌜ left r (now (output .exit), now (scratch .exit))
+        ≡ answeredAs numberOf (spectrumIn (now (samples .entry)) (now (scratch .entry)) (now (output .entry))) ⌝ }
 {
     answers::number_of(spectrum::dft_magnitude_spectrum_in(samples, scratch, output))
 }

@@ -9,13 +9,14 @@ use lib.ListN.{length, take, drop, length-take, length-drop, take-append-drop}
 use lib.IntN.{ℤ}
 use lib.Dec.{T, eqb}
 use Rattle.answers.specs.Numbers.{longest}
+use Rattle.answers.specs.Left.{left}
 use Rattle.answers.specs.declared.Outcome.the-variants.{Done}
 use Rattle.laws.specs.Front.{onto}
 use Rattle.hex.specs.Digit.{isDigit}
 use Rattle.frame.specs.Line.{at-volts, at-amps, after, allDigits, lineOf, lineCodes}
 use Rattle.frame.specs.declared.Line.the-variants.{Frame}
 use Rattle.capture.specs.Lines.{Lines, line, add, cut, codesOf}
-use Rattle.capture.specs.Reading.{follows, weigh, judge, verdictOf, left, readCapture}
+use Rattle.capture.specs.Reading.{follows, weigh, judge, verdictOf, readCapture}
 use Rattle.capture.specs.declared.Verdict.the-variants.{Good}
 use Rattle.capture.proofs.Cut.{feed-no-digit}
 use Rattle.capture.proofs.Answer.{read-done}
@@ -129,7 +130,7 @@ written-good first vs ws k vc wc h =
 -- and puts the same codes there; places past them stay
 pub round-trip : (first : ℕ) (vs ws volts amps : List ℤ) → first < 65536 → Codes vs → Codes ws
     → length vs ≡ length ws → length vs ≤ longest → length vs ≤ length volts → length vs ≤ length amps
-    → readCapture (captureText first vs ws) volts amps ≡ left (record { outcome = Done; line = 0; pairs = length vs }) (onto vs volts) (onto ws amps)
+    → readCapture (captureText first vs ws) volts amps ≡ left (record { outcome = Done; line = 0; pairs = length vs }) (onto vs volts, onto ws amps)
 round-trip first vs ws volts amps k vc wc h m rv ra =
     let g = written-good first vs ws k vc wc h in
     sym (read-done (captureText first vs ws) volts amps (length vs) (g .0) m rv ra)

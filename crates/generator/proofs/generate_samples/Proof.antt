@@ -7,7 +7,7 @@ use lib.ListN.{length}
 use borrow.Author.Needs.{needs}
 use denote.Ref.{now}
 use borrow.Author.Tests.{lt-ltb, le-ltb}
-use Rattle.answers.specs.Written.{written}
+use Rattle.answers.specs.Left.{left}
 use Rattle.answers.specs.declared.Outcome.the-variants.{Done}
 use Rattle.laws.specs.Filled.{filled}
 use Rattle.laws.proofs.Filling.{filled-none, filled-length, filled-next}
@@ -56,7 +56,7 @@ unfolding generated
 returns-2 c =
     let at-loop = c .before .loop in
     let e : at-loop .i ≡ length (now (c .before .before .before .before .args .samples)) = omega arith in
-    simp (le-ltb _ _ (c .before .before .if1 .left)) (ap (written Done) (rw e at (at-loop .inv .1)))
+    simp (le-ltb _ _ (c .before .before .if1 .left)) (ap (left Done) (rw e at (at-loop .inv .1)))
 
 pub generate-samples-spec : {M : Type 1} → statement M
 generate-samples-spec =

@@ -7,7 +7,7 @@ use borrow.Author.Tests.{le-ltb, lt-ltb}
 use denote.Ref.{now}
 use lib.ListN.{length}
 use Rattle.answers.specs.declared.Outcome.the-variants.{Done}
-use Rattle.answers.specs.Written.{written}
+use Rattle.answers.specs.Left.{left}
 use Rattle.laws.specs.Filled.{filled}
 use Rattle.laws.proofs.Filling.{filled-none, filled-length}
 use Rattle.samples.specs.Samples.{shortest, sumAt, addedInto}
@@ -73,7 +73,7 @@ returns-3 c =
     let s = c .before .before .before .before .before .before .before .before .before .before .before .before .before .args in
     let e : l .j + (c .before .before .before .before .before .before .shorter2 .result - l .j) ≡ shortest (now (s .a)) (now (s .b)) (now (s .output)) = omega arith in
     simp (le-ltb _ _ (c .before .before .before .before .before .before .before .before .before .if1 .left), le-ltb _ _ (c .before .before .before .before .before .before .before .before .if2 .left))
-    (ap (written Done) (from-on _ _ _ _ _ (l .j) _ (λ p h. refl) (c .before .before .add-run .ensures) (l .inv .2) ∙ ap (λ (j : ℕ). filled (sumAt (now (s .a)) (now (s .b))) j (now (s .output))) e))
+    (ap (left Done) (from-on _ _ _ _ _ (l .j) _ (λ p h. refl) (c .before .before .add-run .ensures) (l .inv .2) ∙ ap (λ (j : ℕ). filled (sumAt (now (s .a)) (now (s .b))) j (now (s .output))) e))
 
 pub add-signals-spec : {M : Type 1} → statement M
 add-signals-spec =

@@ -1,7 +1,8 @@
 -- `tilljingle::generator_c::tj_generate_samples` meets its contract: the call's own, crossed. Assumes nothing.
 use mathlib.Core.Path.{ap}
 use borrow.Author.Needs.{needs}
-use Rattle.tilljingle.specs.Crossing.{crossed}
+use Rattle.answers.specs.Numbers.{numberOf}
+use Rattle.answers.specs.Left.{answeredAs}
 use Rattle.tilljingle.proofs.generator_c.tj_generate_samples.Statement.{statement}
 use Rattle.tilljingle.proofs.generator_c.tj_generate_samples.Tie as tie
 
@@ -18,7 +19,7 @@ same-length : tie.Need-same-length
 same-length c = search needs
 
 returns : tie.Need-returns
-returns c = rw (c .number-of .ensures) (rw (← c .before .before .before .before .before .wave-of .ensures) (ap crossed (c .before .before .before .generate-samples .ensures)))
+returns c = rw (c .number-of .ensures) (rw (← c .before .before .before .before .before .wave-of .ensures) (ap (answeredAs numberOf) (c .before .before .before .generate-samples .ensures)))
 
 pub tj-generate-samples-spec : {M : Type 1} → statement M
 tj-generate-samples-spec =

@@ -1,7 +1,8 @@
 -- `tilljingle::samples_c::tj_add_signals` meets its contract: the call's own, crossed. Assumes nothing.
 use mathlib.Core.Path.{ap}
 use borrow.Author.Needs.{needs}
-use Rattle.tilljingle.specs.Crossing.{crossed}
+use Rattle.answers.specs.Numbers.{numberOf}
+use Rattle.answers.specs.Left.{answeredAs}
 use Rattle.tilljingle.proofs.samples_c.tj_add_signals.Statement.{statement}
 use Rattle.tilljingle.proofs.samples_c.tj_add_signals.Tie as tie
 
@@ -15,7 +16,7 @@ same-length : tie.Need-same-length
 same-length c = search needs
 
 returns : tie.Need-returns
-returns c = rw (c .number-of .ensures) (ap crossed (c .before .before .before .add-signals .ensures))
+returns c = rw (c .number-of .ensures) (ap (answeredAs numberOf) (c .before .before .before .add-signals .ensures))
 
 pub tj-add-signals-spec : {M : Type 1} → statement M
 tj-add-signals-spec = tie.close (tie.spec add-signals-requires number-of-requires same-length returns)

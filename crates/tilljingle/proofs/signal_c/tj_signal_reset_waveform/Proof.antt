@@ -1,6 +1,7 @@
 -- `tilljingle::signal_c::tj_signal_reset_waveform` meets its contract: the call's own, crossed. Assumes nothing.
 use mathlib.Core.Path.{ap}
-use Rattle.crossing.specs.SignalCrossing.{crossedSignal}
+use Rattle.answers.specs.Left.{answeredAs}
+use Rattle.crossing.specs.SignalCrossing.{codedSignal}
 use borrow.Author.Needs.{needs}
 use Rattle.tilljingle.proofs.signal_c.tj_signal_reset_waveform.Statement.{statement}
 use Rattle.tilljingle.proofs.signal_c.tj_signal_reset_waveform.Tie as tie
@@ -18,7 +19,7 @@ same-length : tie.Need-same-length
 same-length c = search needs
 
 returns : tie.Need-returns
-returns c = rw (c .coded .ensures, ← c .before .before .before .before .before .state-in .ensures) (ap crossedSignal (c .before .before .before .reset-waveform .ensures))
+returns c = rw (c .coded .ensures, ← c .before .before .before .before .before .state-in .ensures) (ap (answeredAs codedSignal) (c .before .before .before .reset-waveform .ensures))
 
 pub tj-signal-reset-waveform-spec : {M : Type 1} → statement M
 tj-signal-reset-waveform-spec = tie.close (tie.spec state-in-requires reset-waveform-requires coded-requires same-length returns)

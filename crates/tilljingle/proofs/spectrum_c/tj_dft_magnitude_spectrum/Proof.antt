@@ -1,7 +1,8 @@
 -- `tilljingle::spectrum_c::tj_dft_magnitude_spectrum` meets its contract: the call's own, crossed. Assumes nothing.
 use borrow.Author.Needs.{needs}
 use mathlib.Core.Path.{ap}
-use Rattle.tilljingle.specs.Crossing.{crossed}
+use Rattle.answers.specs.Numbers.{numberOf}
+use Rattle.answers.specs.Left.{answeredAs}
 use Rattle.tilljingle.proofs.spectrum_c.tj_dft_magnitude_spectrum.Statement.{statement}
 use Rattle.tilljingle.proofs.spectrum_c.tj_dft_magnitude_spectrum.Tie as tie
 
@@ -15,7 +16,7 @@ same-length : tie.Need-same-length
 same-length c = search needs
 
 returns : tie.Need-returns
-returns c = rw (c .number-of .ensures) (ap crossed (c .before .before .before .dft-magnitude-spectrum .ensures))
+returns c = rw (c .number-of .ensures) (ap (answeredAs numberOf) (c .before .before .before .dft-magnitude-spectrum .ensures))
 
 pub tj-dft-magnitude-spectrum-spec : {M : Type 1} → statement M
 tj-dft-magnitude-spectrum-spec =

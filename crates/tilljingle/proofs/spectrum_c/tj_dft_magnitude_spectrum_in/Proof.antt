@@ -1,7 +1,8 @@
 -- `tilljingle::spectrum_c::tj_dft_magnitude_spectrum_in` meets its contract: the call's own, crossed. Assumes nothing.
 use borrow.Author.Needs.{needs}
 use mathlib.Core.Path.{ap}
-use Rattle.tilljingle.specs.Scratch.{crossedIn}
+use Rattle.answers.specs.Numbers.{numberOf}
+use Rattle.answers.specs.Left.{answeredAs}
 use Rattle.tilljingle.proofs.spectrum_c.tj_dft_magnitude_spectrum_in.Statement.{statement}
 use Rattle.tilljingle.proofs.spectrum_c.tj_dft_magnitude_spectrum_in.Tie as tie
 
@@ -18,7 +19,7 @@ same-length-2 : tie.Need-same-length-2
 same-length-2 c = search needs
 
 returns : tie.Need-returns
-returns c = rw (c .number-of .ensures) (ap crossedIn (c .before .before .before .before .before .dft-magnitude-spectrum-in .ensures))
+returns c = rw (c .number-of .ensures) (ap (answeredAs numberOf) (c .before .before .before .before .before .dft-magnitude-spectrum-in .ensures))
 
 pub tj-dft-magnitude-spectrum-in-spec : {M : Type 1} → statement M
 tj-dft-magnitude-spectrum-in-spec =

@@ -11,10 +11,10 @@ use Rattle.port.specs.Readings.{withPlace}
 use Rattle.port.specs.declared.Reading.{Reading}
 use Rattle.port.specs.declared.Reading.the-variants.{Number, Absent}
 use Rattle.port.specs.declared.Slot.{Slot}
 use Rattle.crossing.specs.declared.readings.TjReading.{TjReading}
 use Rattle.crossing.specs.declared.ports.TjPort.{TjPort}
 use Rattle.crossing.specs.PortCrossing.{readingIn, readingOut, slotIn, slotOut, portIn, portOut}
-use Rattle.tilljingle.specs.InPlace.{withHarmonic}
+use Rattle.crossing.specs.InPlace.{withHarmonic}
 
 -- an element of a list that is mapped, inside the list
 pub getD-mapped : {A B : Type 0} (g : A → B) (l : List A) (n : ℕ) (d : A) (e : B) → n < length l → getD (map g l) n e ≡ g (getD l n d)

@@ -7,7 +7,7 @@ use Rattle.power.specs.declared.PowerAnswer.{PowerAnswer}
 use Rattle.power.specs.Power.{answerOf}
 use Rattle.accuracy.specs.Accuracy.{samplesOf}
 use Rattle.code_power.specs.Codes.{NearExact}
-use Rattle.tilljingle.specs.declared.power_c.CodedPower.{CodedPower}
+use Rattle.crossing.specs.declared.powers.CodedPower.{CodedPower}
 
 abbrev pub codedPower : PowerAnswer → CodedPower
 codedPower a = record { code = numberOf (a .outcome); power = a .power }

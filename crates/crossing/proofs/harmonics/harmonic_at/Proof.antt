@@ -1,4 +1,4 @@
--- `tilljingle::harmonics_c::harmonic_at` meets its contract: the test picks the case. Assumes nothing.
+-- `crossing::harmonics::harmonic_at` meets its contract: the test picks the case. Assumes nothing.
 use mathlib.Core.Bool.{false}
 use mathlib.Core.Path.{_≡_}
 use native.Mathlib.Omega.{arith}
@@ -7,10 +7,10 @@ use lib.ListN.{length}
 use borrow.Author.Needs.{needs}
 use borrow.Author.Tests.{lt-ltb, le-ltb}
 use Rattle.port.specs.declared.Reading.the-variants.{Number}
 use Rattle.crossing.specs.PortCrossing.{slotIn}
-use Rattle.tilljingle.proofs.InPlace.{getD-mapped}
-use Rattle.tilljingle.proofs.harmonics_c.harmonic_at.Statement.{statement}
-use Rattle.tilljingle.proofs.harmonics_c.harmonic_at.Tie as tie
+use Rattle.crossing.proofs.InPlace.{getD-mapped}
+use Rattle.crossing.proofs.harmonics.harmonic_at.Statement.{statement}
+use Rattle.crossing.proofs.harmonics.harmonic_at.Tie as tie
 
 returns : tie.Need-returns
 returns c = simp (le-ltb _ _ (c .if1 .taken))

@@ -1,8 +1,8 @@
--- `tilljingle::harmonics_c::with_harmonic` meets its contract: the test picks the case. Assumes nothing.
+-- `crossing::harmonics::with_harmonic` meets its contract: the test picks the case. Assumes nothing.
 use borrow.Author.Needs.{needs}
 use borrow.Author.Tests.{lt-ltb, le-ltb}
-use Rattle.tilljingle.proofs.harmonics_c.with_harmonic.Statement.{statement}
-use Rattle.tilljingle.proofs.harmonics_c.with_harmonic.Tie as tie
+use Rattle.crossing.proofs.harmonics.with_harmonic.Statement.{statement}
+use Rattle.crossing.proofs.harmonics.with_harmonic.Tie as tie
 
 reading-in-requires : tie.Need-reading-in-requires
 reading-in-requires c κs = search needs
