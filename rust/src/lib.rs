@@ -29,7 +29,7 @@ pub use samples::{
 };
 pub use signal::{Metrics, Settings, Signal};
 
-/// Why a call was refused: the numbers of document 01's table, but for 0.
+/// Why a call was refused: the numbers of document 01's table and of the requests of document 02, but for 0.
 #[derive(Clone, Copy, Debug, PartialEq, Eq)]
 #[repr(u8)]
 pub enum Refusal {
@@ -47,6 +47,20 @@ pub enum Refusal {
     WrongSum = 6,
     /// Its sequence number doesn't follow.
     WrongSequence = 7,
+    /// A bin is outside the spectrum's half.
+    BinOutside = 8,
+    /// An edition is neither 1 nor 2.
+    UnknownEdition = 9,
+    /// There is no such register or bench.
+    NoSuchRegister = 10,
+    /// A register is negative or would pass its limit.
+    RegisterFull = 11,
+    /// The bytes are no file of the kind that is read.
+    NoSuchFile = 12,
+    /// The slices have other lengths than at the first call.
+    OtherLengths = 13,
+    /// A number of no table. The library answers none.
+    Unknown = 255,
 }
 
 /// The answer where the code is 0, else the refusal of that number.
@@ -60,6 +74,28 @@ fn answered<T>(code: u8, answer: T) -> Result<T, Refusal> {
         5 => Refusal::WrongForm,
         6 => Refusal::WrongSum,
         7 => Refusal::WrongSequence,
-        _ => unreachable!("no number of the table"),
+        8 => Refusal::BinOutside,
+        9 => Refusal::UnknownEdition,
+        10 => Refusal::NoSuchRegister,
+        11 => Refusal::RegisterFull,
+        12 => Refusal::NoSuchFile,
+        13 => Refusal::OtherLengths,
+        _ => Refusal::Unknown,
     })
+}
+
+#[cfg(test)]
+mod tests {
+    use super::{answered, Refusal};
+
+    #[test]
+    fn every_number_has_its_name() {
+        assert_eq!(answered(0, 7), Ok(7));
+        for code in 1..=13 {
+            assert_eq!(answered(code, ()).map_err(|refusal| refusal as u8), Err(code));
+        }
+        for code in 14..=255 {
+            assert_eq!(answered(code, ()), Err(Refusal::Unknown));
+        }
+    }
 }

@@ -16,6 +16,7 @@ use Rattle.hex.specs.Digit.{isDigit}
 use Rattle.frame.specs.Line.{at-volts, at-amps, after, allDigits, lineOf, lineCodes}
 use Rattle.frame.specs.declared.Line.the-variants.{Frame}
 use Rattle.capture.specs.Lines.{Lines, line, add, cut, codesOf}
+use Rattle.capture.specs.declared.ReadAnswer.{ReadAnswer}
 use Rattle.capture.specs.Reading.{follows, weigh, judge, verdictOf, readCapture}
 use Rattle.capture.specs.declared.Verdict.the-variants.{Good}
 use Rattle.capture.proofs.Cut.{feed-no-digit}
@@ -134,4 +135,4 @@ pub round-trip : (first : ℕ) (vs ws volts amps : List ℤ) → first < 65536 �
 round-trip first vs ws volts amps k vc wc h m rv ra =
     let g = written-good first vs ws k vc wc h in
     sym (read-done (captureText first vs ws) volts amps (length vs) (g .0) m rv ra)
-    ∙ ap₂ (λ (x y : List ℤ). left (record { outcome = Done; line = 0; pairs = length vs }) (onto x volts) (onto y amps)) (g .1) (g .2)
+    ∙ ap₂ (λ (x y : List ℤ). left {A = ReadAnswer} {B = List ℤ × List ℤ} (record { outcome = Done; line = 0; pairs = length vs }) (onto x volts, onto y amps)) (g .1) (g .2)
