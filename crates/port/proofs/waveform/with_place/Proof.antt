@@ -1,8 +1,8 @@
--- `port::with_place` meets its contract: the test picks the case. Assumes nothing.
+-- `port::waveform::with_place` meets its contract: the test picks the case. Assumes nothing.
 use borrow.Author.Needs.{needs}
 use borrow.Author.Tests.{lt-ltb, le-ltb}
-use Rattle.port.proofs.with_place.Statement.{statement}
-use Rattle.port.proofs.with_place.Tie as tie
+use Rattle.port.proofs.waveform.with_place.Statement.{statement}
+use Rattle.port.proofs.waveform.with_place.Tie as tie
 
 mul-harmonics : tie.Need-mul-harmonics
 mul-harmonics c = search needs

@@ -1,8 +1,8 @@
--- `port::place_of` meets its contract: the test picks the case. Assumes nothing.
+-- `port::waveform::place_of` meets its contract: the test picks the case. Assumes nothing.
 use borrow.Author.Needs.{needs}
 use borrow.Author.Tests.{lt-ltb, le-ltb}
-use Rattle.port.proofs.place_of.Statement.{statement}
-use Rattle.port.proofs.place_of.Tie as tie
+use Rattle.port.proofs.waveform.place_of.Statement.{statement}
+use Rattle.port.proofs.waveform.place_of.Tie as tie
 
 returns : tie.Need-returns
 returns c = simp (le-ltb _ _ (c .if1 .taken))
