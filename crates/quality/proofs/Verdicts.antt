@@ -6,8 +6,8 @@ use native.Mathlib.Omega.{arith}
 use borrow.Author.Tests.{ltb-false, leb-false, eqb-false}
 use lib.Dec.{leb, eqb}
 use Rattle.answers.specs.Numbers.{tooLong}
-use Rattle.quality.specs.declared.Verdict.{Verdict}
-use Rattle.quality.specs.declared.Verdict.the-variants.{Refused, Unusable, Usable}
+use Rattle.quality.specs.declared.verdict.Verdict.{Verdict}
+use Rattle.quality.specs.declared.verdict.Verdict.the-variants.{Refused, Unusable, Usable}
 use Rattle.quality.specs.Judged.{judged}
 use Rattle.quality.specs.Powers.{Inside}
 use Rattle.quality.specs.Quality.{unusableBin}

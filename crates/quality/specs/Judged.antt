@@ -2,8 +2,8 @@
 use Prim.Native.Nat.{ℕ}
 use mathlib.Core.Bool.{cond}
 use Rattle.answers.specs.Numbers.{tooLong}
-use Rattle.quality.specs.declared.Verdict.{Verdict}
-use Rattle.quality.specs.declared.Verdict.the-variants.{Refused, Unusable, Usable}
+use Rattle.quality.specs.declared.verdict.Verdict.{Verdict}
+use Rattle.quality.specs.declared.verdict.Verdict.the-variants.{Refused, Unusable, Usable}
 use Rattle.quality.specs.Quality.{unusableBin}
 
 -- of n places and the bin b; proofs/Verdicts.antt says what each case means for the answers

@@ -1,7 +1,7 @@
 -- `quality::compute_thd_from_spectrum` meets its contract: one answer for each verdict. Assumes nothing.
 use mathlib.Core.Path.{sym, _∙_}
 use borrow.Author.Needs.{needs}
-use Rattle.quality.specs.declared.Verdict.the-variants.{Refused, Unusable, Usable}
+use Rattle.quality.specs.declared.verdict.Verdict.the-variants.{Refused, Unusable, Usable}
 use Rattle.quality.specs.Quality.{answerThd}
 use Rattle.quality.proofs.Verdicts.{verdict-says, usable}
 use Rattle.quality.proofs.compute_thd_from_spectrum.Statement.{statement}
