@@ -18,7 +18,7 @@ use Rattle.frame.specs.declared.Line.the-variants.{Frame}
 use Rattle.capture.specs.Lines.{Lines, line, add, cut, codesOf}
 use Rattle.capture.specs.declared.ReadAnswer.{ReadAnswer}
 use Rattle.capture.specs.Reading.{follows, weigh, judge, verdictOf, readCapture}
-use Rattle.capture.specs.declared.Verdict.the-variants.{Good}
+use Rattle.capture.specs.declared.parts.Verdict.the-variants.{Good}
 use Rattle.capture.proofs.Cut.{feed-no-digit}
 use Rattle.capture.proofs.Answer.{read-done}
 use Rattle.writing.specs.Text.{lineText, linesText, captureText}
