@@ -1,15 +1,15 @@
 #!/usr/bin/env python3
 """Says why each must-fail edit was refused, after `rt must-fail` or `rt ci`: its label and the first error of its log.
-An edit after which a need of the proof has no name any more, or a place of the code is not where the proof looks for it, only
-made the proof unfit for the code and shows nothing: such a one is marked WEAK, and the program ends with status 1. An edit with a
-line '# refuses: F G ..' makes one wrong change in each of these functions, or one that each of these laws is about, and is WEAK unless each was refused.
+An edit after which a need of the proof has no name any more, or has another's place, or a place of the code is not where the proof looks for it,
+only made the proof unfit for the code and shows nothing: such a one is marked WEAK, and the program ends with status 1. An edit with
+lines '# refuses: F G ..' makes one wrong change in each of these functions, or one that each of these laws is about, and is WEAK unless each was refused.
 An edit whose log has no error, or that has no log, counts as WEAK too. Logs of an earlier run are not told from those of the last.
 usage: refusals.py [CRATE..]   in the repository's root"""
 import pathlib
 import re
 import sys
 
-WEAK = re.compile(r"that can be named from here|\.Lts\.\S+` has no field")
+WEAK = re.compile(r"that can be named from here|\.Lts\.\S+` has no field|this pattern needs a function \(or path\) type|expected type `tie\.Need-")
 weak = 0
 for path in sorted(pathlib.Path("crates").glob("*/must-fail/*.edit")):
     crate, label = path.parts[1], path.stem
