@@ -4,7 +4,7 @@ names none, as where it changes a definition), name, and a short hash of its cha
 A line '# name: what is wrong' begins a program, and the texts from there to the next such line are its changes; a line '# refuses: ..' among
 them is its own. Names in a row share the changes that follow, which a * after the hash says. An edit without names is one program, by its label.
 Of two trees it shows the names that are gone, new or in another crate, and those whose changes differ: what was taken away, and what has come.
-Ends with status 1 if a name is gone, or stands twice in a crate.
+Ends with status 1 if a name is gone, if one stands twice in a crate, or if one function is to be refused for two programs of one edit.
 usage: wrong_programs.py [TREE] | wrong_programs.py BEFORE AFTER   in the repository's root; a tree is a commit or a folder"""
 import dataclasses
 import hashlib
@@ -22,10 +22,12 @@ NAMES = re.compile(r"# (?!refuses:)([a-z0-9_]+(?:, [a-z0-9_]+)*): ")
 class Program:
     names: list = dataclasses.field(default_factory=list)
     refuses: list = dataclasses.field(default_factory=list)
+    of_edit: list = dataclasses.field(default_factory=list)  # named before the first program
     changes: list = dataclasses.field(default_factory=list)
 
     def line(self):
-        refused = ",".join(self.refuses[:3]) + f",+{len(self.refuses) - 3}" * (len(self.refuses) > 3)
+        refuses = self.refuses or self.of_edit
+        refused = ",".join(refuses[:3]) + f",+{len(refuses) - 3}" * (len(refuses) > 3)
         shared = "*" * (len(self.names) > 1)
         return refused or "-", hashlib.sha1(repr(sorted(self.changes)).encode()).hexdigest()[:8] + shared
 
@@ -43,14 +45,14 @@ def edits(tree):
 
 
 def programs_of(label, text):
-    """The programs of one edit. What stands before the first name holds for all of them."""
+    """The programs of one edit."""
     whole = Program()
     program, found, place, old = whole, [], "", ""
     for line in text.splitlines():
         named = NAMES.match(line)
         if named:
             if program is whole or program.changes:
-                program = Program(refuses=list(whole.refuses))
+                program = Program(of_edit=whole.refuses)
                 found.append(program)
             program.names += named[1].split(", ")
         elif line.startswith("# refuses: "):
@@ -61,20 +63,20 @@ def programs_of(label, text):
             old = line[5:]
         elif line.startswith("new:"):
             program.changes.append((place, old.strip(), line[4:].strip()))
-    if not found:
-        whole.names = [label]
-        found = [whole]
-    return found
+    whole.names = [label]
+    return found or [whole]
 
 
 def programs(tree):
-    """Program by crate and name; and the names that stand twice."""
+    """Program by crate and name; and what stands twice, a name in a crate or a function in an edit."""
     found, twice = {}, []
     for crate, label, text in edits(tree):
-        for program in programs_of(label, text):
+        parts = programs_of(label, text)
+        refused = [function for program in parts for function in program.refuses]
+        twice += [f"{crate}/{label}: {function}" for function in sorted(set(refused)) if refused.count(function) > 1]
+        for program in parts:
             for name in program.names:
-                if (crate, name) in found:
-                    twice.append((crate, name))
+                twice += [f"{crate}/{name}"] * ((crate, name) in found)
                 found[crate, name] = program
     return found, twice
 
@@ -123,7 +125,7 @@ else:
     gone = compared(before, after)
     print(f"{len(before)} wrong programs before, {len(after)} after, {gone} gone")
     status = int(gone > 0)
-for crate, name in trees[-1][1]:
-    print(f"twice    {crate}/{name}")
+for what in trees[-1][1]:
+    print(f"twice    {what}")
     status = 1
 sys.exit(status)
