@@ -95,14 +95,16 @@ is-above x h = ap (λ (b : Bool). narrowedRoot (cond b x (ofBits binary64 0))) h
 
 -- ---- y is no less than x: the answer is 0
 pub difference-none : (x y : Float) → Signed x false → Signed y false → num x * den y ≤ num y * den x → narrowedRoot (aboveZero (sub binary64 x y)) ≡ fin false 0 (pos 0)
-difference-none x y p q h = not-above (sub binary64 x y) (ap (λ (z : Float). lt (ofBits binary64 0) z) (sub-is binary64 x y p q) ∙ go (ltb (num x * den y) (num y * den x)) (ltb→lt (num x * den y) (num y * den x)) (nltb→le (num x * den y) (num y * den x)))
+difference-none x y p q h = not-above (sub binary64 x y) (ap (λ (z : Float). lt (ofBits binary64 0) z) (sub-is binary64 x y p q)
+    ∙ go (ltb (num x * den y) (num y * den x)) (ltb→lt (num x * den y) (num y * den x)) (nltb→le (num x * den y) (num y * den x)))
   where
     go : (t : Bool) → (T t → num x * den y < num y * den x) → (T (not t) → num y * den x ≤ num x * den y)
         → lt (ofBits binary64 0) (sum binary64 false (num x * den y) true (num y * den x) (den x * den y)) ≡ false
     go true a b = ap (λ (z : Float). lt (ofBits binary64 0) z) (sum-smaller binary64 (num x * den y) (num y * den x) (den x * den y) (a tt)) ∙ round-negative binary64 _ _
     go false a b =
         ap₂ (λ (o z : Float). lt o z) zero64-is (sum-larger binary64 (num x * den y) (num y * den x) (den x * den y) (b tt))
-        ∙ lt-null 0 (pos 0) (round binary64 false (num x * den y - num y * den x) (den x * den y)) (null-round binary64 false (num x * den y - num y * den x) (den x * den y) (mul-pos (den-pos x) (den-pos y)) (sub-eq-zero-of-le h))
+        ∙ lt-null 0 (pos 0) (round binary64 false (num x * den y - num y * den x) (den x * den y))
+        (null-round binary64 false (num x * den y - num y * den x) (den x * den y) (mul-pos (den-pos x) (den-pos y)) (sub-eq-zero-of-le h))
 
 -- ---- x is larger: the square of the answer is near the difference
 one-left : (a b c : ℕ) → b < a → c ≤ 2 ^ 190 → c ≤ (a - b) * 2 ^ 190

@@ -88,7 +88,8 @@ rms-found x A B t h z a b =
       is = c .is;
       ratio =
           weaken (num v * num v) (den v * den v) (num x) (den x) _ _ _ (2 ^ 28 - 33) (2 ^ 28 + 33) (2 ^ 28) (lit< tt) (lit< tt) (lit≤ tt) (lit≤ tt)
-          (after (num v * num v) (den v * den v) (num y * num y) (den y * den y) (num x) (den x) _ _ _ _ _ _ (mul-pos (den-pos y) (den-pos y)) (squared (num v) (den v) (num y) (den y) _ _ _ (c .ratio)) (r .1));
+          (after (num v * num v) (den v * den v) (num y * num y) (den y * den y) (num x) (den x) _ _ _ _ _ _ (mul-pos (den-pos y) (den-pos y))
+          (squared (num v) (den v) (num y) (den y) _ _ _ (c .ratio)) (r .1));
       size = size-near (num v) (den v) (num y) (den y) (2 ^ 24 - 1) (2 ^ 24 + 1) (2 ^ 24) (A * 2) (B * 2) (den-pos v) (lit< tt) (lit< tt) (lit≤ tt) (lit≤ tt) (c .ratio) s;
     }
 

@@ -3,7 +3,8 @@ use Prim.Native.Nat.{ℕ}
 use mathlib.Core.Bool.{Bool, true, false, cond}
 use lib.Dec.{ltb, eqb}
 use Rattle.answers.specs.declared.Outcome.{Outcome}
-use Rattle.answers.specs.declared.Outcome.the-variants.{Done, LengthsDiffer, OutputShort, TooLong, OffGrid, WrongForm, WrongSum, WrongSequence, BinOutside, UnknownEdition, NoSuchRegister, RegisterFull, NoSuchFile, OtherLengths}
+use Rattle.answers.specs.declared.Outcome.the-variants.{Done, LengthsDiffer, OutputShort, TooLong, OffGrid, WrongForm, WrongSum, WrongSequence, BinOutside, UnknownEdition, NoSuchRegister}
+use Rattle.answers.specs.declared.Outcome.the-variants.{RegisterFull, NoSuchFile, OtherLengths}
 
 -- 01, 'Numbers a call can return': the number of each row of the table
 abbrev pub numberOf : Outcome → ℕ

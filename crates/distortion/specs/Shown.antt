@@ -34,12 +34,16 @@ pub of-eight :
     map (with eight (inf false) 1) eight ∷ map (with eight (inf true) 1) eight ∷ map (with eight (inf false) 2) eight ∷ map (with eight (inf false) 3) eight ∷ []
     ≡ (e ∷ nan ∷ e ∷ nan ∷ e ∷ nan ∷ e ∷ nan ∷ []) ∷ (e ∷ nan ∷ e ∷ nan ∷ e ∷ nan ∷ e ∷ nan ∷ [])
     ∷ (e ∷ e ∷ e ∷ e ∷ e ∷ e ∷ e ∷ e ∷ []) ∷ (e ∷ zero32 ∷ e ∷ zero32 ∷ e ∷ zero32 ∷ e ∷ zero32 ∷ []) ∷ []
-unfolding thdOf thdAt thdFrom usable fundamentalBin squareOf harmonicsOf harmonicPower lastUpTo magnitudeOf sizeOf sumsOf sumsTo turned angleOf stepOf sineOf cosineOf quadrant fraction quarterTable narrowedRoot narrow root wholeRoot rootIn roundAway add sub mul div neg lt sum round units odd size span climb trailingZeros ofInt ofBits ofFields toUnsigned
+unfolding thdOf thdAt thdFrom usable fundamentalBin squareOf harmonicsOf harmonicPower lastUpTo magnitudeOf sizeOf sumsOf sumsTo turned angleOf stepOf sineOf
+    cosineOf quadrant fraction quarterTable narrowedRoot narrow root wholeRoot rootIn roundAway add sub mul div neg lt sum round units odd size span climb
+    trailingZeros ofInt ofBits ofFields toUnsigned
 of-eight = refl
 
 -- of 16 samples, at bin 1: each fourth place keeps the THD before
 pub of-sixteen :
     map (with sixteen (inf false) 1) sixteen
     ≡ e ∷ nan ∷ nan ∷ nan ∷ e ∷ nan ∷ nan ∷ nan ∷ e ∷ nan ∷ nan ∷ nan ∷ e ∷ nan ∷ nan ∷ nan ∷ []
-unfolding thdOf thdAt thdFrom usable fundamentalBin squareOf harmonicsOf harmonicPower lastUpTo magnitudeOf sizeOf sumsOf sumsTo turned angleOf stepOf sineOf cosineOf quadrant fraction quarterTable narrowedRoot narrow root wholeRoot rootIn roundAway add sub mul div neg lt sum round units odd size span climb trailingZeros ofInt ofBits ofFields toUnsigned
+unfolding thdOf thdAt thdFrom usable fundamentalBin squareOf harmonicsOf harmonicPower lastUpTo magnitudeOf sizeOf sumsOf sumsTo turned angleOf stepOf sineOf
+    cosineOf quadrant fraction quarterTable narrowedRoot narrow root wholeRoot rootIn roundAway add sub mul div neg lt sum round units odd size span climb
+    trailingZeros ofInt ofBits ofFields toUnsigned
 of-sixteen = refl

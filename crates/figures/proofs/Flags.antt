@@ -8,7 +8,8 @@ use lib.ListN.{length, getD}
 use lib.Ieee.{Float, nan, lt, le}
 use Rattle.laws.specs.Walks.{pairs}
 use Rattle.figures.specs.declared.edges.Edges.{Edges}
-use Rattle.figures.specs.Edges.{RiseFall, nothingYet, riseStarts, riseGrows, fallStarts, fallGrows, fourTests, riseFallOf, riseFallBetween, sampleTimeOf, edgeTimeOf, riseNumber, fallNumber, noEdge, riseBegins, riseCounts, fallBegins, fallCounts, edgeAt, edgesOf, edgesBetween, lowThreshold, highThreshold, timesOf}
+use Rattle.figures.specs.Edges.{RiseFall, nothingYet, riseStarts, riseGrows, fallStarts, fallGrows, fourTests, riseFallOf, riseFallBetween, sampleTimeOf, edgeTimeOf, riseNumber, fallNumber}
+use Rattle.figures.specs.Edges.{noEdge, riseBegins, riseCounts, fallBegins, fallCounts, edgeAt, edgesOf, edgesBetween, lowThreshold, highThreshold, timesOf}
 
 -- what the number says of the flags
 abbrev pub flags : Edges → RiseFall

@@ -99,7 +99,9 @@ records =
     ∷ []
 
 pub records-hold : map (λ (w : Whole). fields (figuresOf (w .wave) (w .amplitude) (w .frequency) (w .samples))) records ≡ map (λ (w : Whole). w .figures) records
-unfolding over pairs higher lower squareOf totalOf narrowedMean risesAt firstOf crossingAt crossingsOf frequencyFrom frequencyAbout slewAt steepestOf slewOf maxOf minOf sumOf averageOf rectifiedOf dcRmsOf acRmsOf near highsOf dutyOf riseStarts riseGrows fallStarts fallGrows fourTests riseFallOf sampleTimeOf edgeTimeOf ratioOrZero crestOf periodOf excessOf figuresOf narrow root abs add sub mul div neg lt le ofInt ofBits
+unfolding over pairs higher lower squareOf totalOf narrowedMean risesAt firstOf crossingAt crossingsOf frequencyFrom frequencyAbout slewAt steepestOf slewOf
+    maxOf minOf sumOf averageOf rectifiedOf dcRmsOf acRmsOf near highsOf dutyOf riseStarts riseGrows fallStarts fallGrows fourTests riseFallOf sampleTimeOf
+    edgeTimeOf ratioOrZero crestOf periodOf excessOf figuresOf narrow root abs add sub mul div neg lt le ofInt ofBits
 records-hold = refl
 
 -- ---- 01: "One RMS for the record and for power: the two round in different places." Of 0, 0, 5 the record's, which narrows the mean square and then takes

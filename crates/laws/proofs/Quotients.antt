@@ -1,4 +1,5 @@
--- Over one divisor the larger dividend has the larger quotient, rounded or not: so what no quotient of the larger passes, no quotient of the smaller does. For floats whose signs are clear. Assumes nothing.
+-- Over one divisor the larger dividend has the larger quotient, rounded or not: so what no quotient of the larger passes, no quotient of the smaller does. For
+-- floats whose signs are clear. Assumes nothing.
 use mathlib.Core.Path.{_≡_, refl, sym, ap, subst, _∙_}
 use mathlib.Core.Bool.{Bool, true, false, not, _&&_, _||_, cond}
 use Prim.Native.Nat.{ℕ, zero, suc, _+_, _*_, _^_, _≤_, _<_}
@@ -112,7 +113,8 @@ module _ (m : Float) (M : T (unsigned m)) where
       go (fin false k d) M (fin false n j) (fin true p q) Y Z l e = absurd Z
       go (fin false k d) M (fin false n j) (fin false p q) Y Z l e =
           le-ltb (k * up d * down j) (n * up j * down d)
-          (through (n * up j) (p * up q) (k * up d) (down j) (down q) (down d) (down-pos q) (level-or-below (n * up j * down q) (p * up q * down j) l) (ltb-false (k * up d * down q) (p * up q * down d) e))
+          (through (n * up j) (p * up q) (k * up d) (down j) (down q) (down d) (down-pos q) (level-or-below (n * up j * down q) (p * up q * down j) l)
+          (ltb-false (k * up d * down q) (p * up q * down d) e))
 
 -- ---- quotients
 

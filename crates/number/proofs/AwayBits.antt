@@ -2,7 +2,8 @@
 use mathlib.Core.Path.{_≡_, refl, sym, ap, _∙_, subst}
 use mathlib.Core.Logic.{inl, inr}
 use Prim.Native.Nat.{ℕ, zero, suc, _+_, _-_, _*_, _/_, _^_, _≤_, _<_}
-use native.Mathlib.Nat.{le-trans, le-of-eq, le-of-lt, le-of-suc-le-suc, lt-of-lt-of-le, lt-of-le-of-lt, eq-or-lt-of-le, mul-one, one-mul, mul-assoc, mul-comm, mul-left-comm, mul-right-comm, mul-pos, add-mul, suc-mul, mul-le-mul-right, div-lt-iff-lt-mul, le-div-iff-mul-le, div-eq-of-lt, zero-lt-suc, eq-of-mul-eq-mul-right, pow-succ'}
+use native.Mathlib.Nat.{le-trans, le-of-eq, le-of-lt, le-of-suc-le-suc, lt-of-lt-of-le, lt-of-le-of-lt, eq-or-lt-of-le, mul-one, one-mul, mul-assoc, mul-comm, mul-left-comm, mul-right-comm, mul-pos}
+use native.Mathlib.Nat.{add-mul, suc-mul, mul-le-mul-right, div-lt-iff-lt-mul, le-div-iff-mul-le, div-eq-of-lt, zero-lt-suc, eq-of-mul-eq-mul-right, pow-succ'}
 use native.Mathlib.Omega.{arith}
 use mathlib.Core.Bool.{Bool, false, not, cond}
 use lib.Dec.{T, lit<, lit≤}
@@ -60,7 +61,8 @@ units-none : (s : Bool) (m y : ℕ) → m < 2 ^ 24 → y ≤ 124 → toBits bina
 units-none s m y h l =
     let a = m * 2 ^ y in
     let b : a < 2 ^ 148 = lt-of-lt-of-le (shl-lt 24 y h) (pow-mono {i = 24 + y} {j = 148} (omega arith)) in
-    ap (toBits binary32) (value-away binary32 (odd 24 s m y 149) s a (2 ^ 149) (pow-pos 149) (odd-sign 24 s m y 149) ∙ ap (λ (q : ℕ). round binary32 s q 1) (div-eq-of-lt (less a (2 ^ 148) (2 ^ 149) b refl)))
+    ap (toBits binary32) (value-away binary32 (odd 24 s m y 149) s a (2 ^ 149) (pow-pos 149) (odd-sign 24 s m y 149)
+    ∙ ap (λ (q : ℕ). round binary32 s q 1) (div-eq-of-lt (less a (2 ^ 148) (2 ^ 149) b refl)))
     ∙ whole-bits s 0 0 0 (lit< tt) refl (lit≤ tt) (λ z. absurd (none z))
   where
     less : (a h c : ℕ) → a < h → c ≡ 2 * h → 2 * a + c < 2 * c

@@ -55,7 +55,8 @@ units-low : (s : Bool) (m y : ℕ) → m < 2 ^ 53 → 871 ≤ y → y ≤ 895 �
 units-low s m y h l u =
     units-bits s m y 0 (closest m (2 ^ (925 - y))) (drop-zero 24 m (y + 149) 1074 53 h (omega arith)) (kept-at m (y + 149) 1074 0 (925 - y) (omega arith))
 
-pub value-high : (v : Float) (s : Bool) (m y : ℕ) → HasValue v s (m * 2 ^ y) (2 ^ 1074) → 2 ^ 52 ≤ m → m < 2 ^ 53 → 896 ≤ y → toBits binary32 (narrow v) ≡ cond s (2 ^ 31) 0 + Beside (y - 896) (closest m (2 ^ 29))
+pub value-high : (v : Float) (s : Bool) (m y : ℕ) → HasValue v s (m * 2 ^ y) (2 ^ 1074) → 2 ^ 52 ≤ m → m < 2 ^ 53 → 896 ≤ y
+    → toBits binary32 (narrow v) ≡ cond s (2 ^ 31) 0 + Beside (y - 896) (closest m (2 ^ 29))
 value-high v s m y i h l u =
     value-bits v s m y (y - 896) (closest m (2 ^ 29)) i (drop-at 23 m (y + 149) 1074 (y - 896) 52 h l (omega arith)) (kept-at m (y + 149) 1074 (y - 896) 29 (omega arith))
 
@@ -73,7 +74,8 @@ fields-zero s t = refl
 
 fields-suc : (s : Bool) (t y : ℕ) → suc y < 2047 → ofFields binary64 s (suc y) t ≡ odd 53 s (2 ^ 52 + t) y 1074
 unfolding ofFields
-fields-suc s t y h = cond-no (eqb (suc y) 2047) (cond (eqb t 0) (inf s) nan) (odd 53 s (2 ^ 52 + t) y 1074) (not-T (eqb (suc y) 2047) (λ (u : T (eqb (suc y) 2047)). differ y h (eqb→eq (suc y) 2047 u)))
+fields-suc s t y h = cond-no (eqb (suc y) 2047) (cond (eqb t 0) (inf s) nan) (odd 53 s (2 ^ 52 + t) y 1074)
+    (not-T (eqb (suc y) 2047) (λ (u : T (eqb (suc y) 2047)). differ y h (eqb→eq (suc y) 2047 u)))
 
 fields-inf : (s : Bool) (t F : ℕ) → F ≡ 2047 → t ≡ 0 → ofFields binary64 s F t ≡ inf s
 unfolding ofFields

@@ -2,7 +2,8 @@
 use mathlib.Core.Path.{_≡_, sym, ap, ap₂, _∙_, subst}
 use mathlib.Core.Bool.{Bool, true, false, cond}
 use Prim.Native.Nat.{ℕ, suc, _+_, _-_, _*_, _/_, _%_, _^_, _≤_, _<_, compare}
-use native.Mathlib.Nat.{le-trans, le-of-eq, le-of-lt, lt-of-not-le, mul-comm, mul-assoc, mul-left-comm, mul-mul-mul-comm, mul-le-mul, mul-le-mul-right, mul-lt-mul-of-pos-right, le-of-mul-le-mul-right, mul-pos, add-mul, le-div-iff-mul-le}
+use native.Mathlib.Nat.{le-trans, le-of-eq, le-of-lt, lt-of-not-le, mul-comm, mul-assoc, mul-left-comm, mul-mul-mul-comm, mul-le-mul, mul-le-mul-right, mul-lt-mul-of-pos-right, le-of-mul-le-mul-right}
+use native.Mathlib.Nat.{mul-pos, add-mul, le-div-iff-mul-le}
 use native.Mathlib.Decide.{decLe}
 use native.Mathlib.Omega.{arith}
 use lib.Dec.{eqb, lit≤}
@@ -53,8 +54,10 @@ module _ (f : Format) (a : ℕ) (A : 0 < a) (m j : ℕ) (small : m < 2 ^ prec f)
   whole : 2 * (2 ^ (prec f - 1) * 2 ^ k) ≤ r f a A
   whole =
       let L = 2 ^ low f in
-      let e : 2 ^ suc (suc (low f)) * 2 ^ k * 2 ^ (prec f - 1) ≡ 4 * (2 ^ (prec f - 1) * 2 ^ k) * L = ap (λ (x : ℕ). x * 2 ^ k * 2 ^ (prec f - 1)) (four f a A) ∙ regroup L (2 ^ k) (2 ^ (prec f - 1)) in
-      halved (2 ^ (prec f - 1) * 2 ^ k) (r f a A) (sticky (n f a A) (r f a A)) (le-of-mul-le-mul-right (le-trans (le-of-eq (sym e)) reached) (pow-pos (low f))) (sticky-le (eqb (r f a A * r f a A) (n f a A)))
+      let e : 2 ^ suc (suc (low f)) * 2 ^ k * 2 ^ (prec f - 1) ≡ 4 * (2 ^ (prec f - 1) * 2 ^ k) * L = ap (λ (x : ℕ). x * 2 ^ k * 2 ^ (prec f - 1)) (four f a A)
+      ∙ regroup L (2 ^ k) (2 ^ (prec f - 1)) in
+      halved (2 ^ (prec f - 1) * 2 ^ k) (r f a A) (sticky (n f a A) (r f a A)) (le-of-mul-le-mul-right (le-trans (le-of-eq (sym e)) reached) (pow-pos (low f)))
+      (sticky-le (eqb (r f a A * r f a A) (n f a A)))
     where
       regroup : (L k q : ℕ) → 4 * L * k * q ≡ 4 * (q * k) * L
       regroup L k q = simp (mul-assoc, mul-comm, mul-left-comm)

@@ -3,7 +3,9 @@ use mathlib.Core.Path.{_≡_, refl, sym, ap, ap₂, _∙_, subst}
 use mathlib.Core.Logic.{_⊎_, inl, inr}
 use mathlib.Core.Bool.{Bool, false}
 use Prim.Native.Nat.{ℕ, suc, _+_, _-_, _*_, _/_, _%_, _^_, _≤_, _<_, compare, Ordering, Ordering·lt, Ordering·eq, Ordering·gt}
-use native.Mathlib.Nat.{pow-suc, le-trans, le-of-eq, le-of-lt, lt-of-lt-of-le, lt-of-not-le, mul-comm, mul-assoc, mul-left-comm, mul-right-comm, mul-le-mul-left, mul-le-mul-right, mul-lt-mul-of-pos-right, le-of-mul-le-mul-right, eq-of-mul-eq-mul-right, eq-zero-or-pos, mul-pos, mul-one, add-mul, suc-mul, div-add-mod', div-div-eq-div-mul, mod-lt, le-div-iff-mul-le}
+use native.Mathlib.Nat.{pow-suc, le-trans, le-of-eq, le-of-lt, lt-of-lt-of-le, lt-of-not-le, mul-comm, mul-assoc, mul-left-comm, mul-right-comm, mul-le-mul-left, mul-le-mul-right}
+use native.Mathlib.Nat.{mul-lt-mul-of-pos-right, le-of-mul-le-mul-right, eq-of-mul-eq-mul-right, eq-zero-or-pos, mul-pos, mul-one, add-mul, suc-mul, div-add-mod', div-div-eq-div-mul, mod-lt}
+use native.Mathlib.Nat.{le-div-iff-mul-le}
 use native.Mathlib.Decide.{decLe}
 use native.Mathlib.Omega.{arith}
 use borrow.Author.Tests.{le-ltb}
@@ -348,7 +350,8 @@ round-nearest f s x sx h =
           let d = digits-of f v s tv sv in
           let b = d .m * 2 ^ d .j in
           let z = at-middle (num x) (den x) (num y) (den y) (num v) (den v) g b L ey (d .is) (mul-pos (den-pos y) (den-pos v)) e in
-          even-value f y g (kept p n (den x)) (drop p n (den x)) refl ey (even-digits p n (den x) o1 C (midway p n (den x) o1 C (d .m) (d .j) (d .small) (other (num x) (den x) (num y) (den y) (num v) (den v) g b L ey (d .is) o w) z))
+          even-value f y g (kept p n (den x)) (drop p n (den x)) refl ey
+          (even-digits p n (den x) o1 C (midway p n (den x) o1 C (d .m) (d .j) (d .small) (other (num x) (den x) (num y) (den y) (num v) (den v) g b L ey (d .is) o w) z))
           (kept-le p n (den x));
     }
 

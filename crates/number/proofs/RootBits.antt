@@ -2,7 +2,9 @@
 use mathlib.Core.Path.{_≡_, refl, sym, ap, _∙_, subst}
 use mathlib.Core.Logic.{inl, inr}
 use Prim.Native.Nat.{ℕ, zero, suc, _+_, _-_, _*_, _/_, _%_, _^_, _≤_, _<_, min, compare}
-use native.Mathlib.Nat.{le-trans, le-of-eq, le-of-lt, lt-of-lt-of-le, lt-of-le-of-lt, lt-irrefl, mul-assoc, mul-right-comm, mul-left-comm, mul-mul-mul-comm, suc-mul, add-zero, zero-add, le-add-right, eq-zero-or-pos, mul-pos, mul-le-mul, mul-le-mul-right, eq-of-mul-eq-mul-right, mul-div-cancel, div-add-mod', mod-lt, add-mul, pow-succ', pow-suc, mul-mod-left, zero-mul, mul-one, mul-le-mul-left, lt-of-not-le, mul-lt-mul-of-pos-right, mod-eq-of-lt}
+use native.Mathlib.Nat.{le-trans, le-of-eq, le-of-lt, lt-of-lt-of-le, lt-of-le-of-lt, lt-irrefl, mul-assoc, mul-right-comm, mul-left-comm, mul-mul-mul-comm, suc-mul, add-zero, zero-add, le-add-right}
+use native.Mathlib.Nat.{eq-zero-or-pos, mul-pos, mul-le-mul, mul-le-mul-right, eq-of-mul-eq-mul-right, mul-div-cancel, div-add-mod', mod-lt, add-mul, pow-succ', pow-suc, mul-mod-left, zero-mul}
+use native.Mathlib.Nat.{mul-one, mul-le-mul-left, lt-of-not-le, mul-lt-mul-of-pos-right, mod-eq-of-lt}
 use native.Mathlib.Numerals.{add-one}
 use native.Mathlib.Omega.{arith}
 use mathlib.Core.Bool.{Bool, true, false, cond, true≢false}
@@ -66,7 +68,8 @@ closest-half R h c l g = go (R % 2) refl
     odd x e = omega arith
 
     at : (q r : ℕ) → R * h + c ≡ q * (2 * h) + r → r < 2 * h → closest (R * h + c) (2 * h) ≡ nearest q (compare (r * 2) (2 * h))
-    at q r e s = ap (λ (x : ℕ). closest x (2 * h)) e ∙ ap (λ (x : ℕ). nearest x (compare ((q * (2 * h) + r) % (2 * h) * 2) (2 * h))) (digits-div q s) ∙ ap (λ (x : ℕ). nearest q (compare (x * 2) (2 * h))) (digits-mod q s)
+    at q r e s = ap (λ (x : ℕ). closest x (2 * h)) e ∙ ap (λ (x : ℕ). nearest x (compare ((q * (2 * h) + r) % (2 * h) * 2) (2 * h))) (digits-div q s)
+        ∙ ap (λ (x : ℕ). nearest q (compare (x * 2) (2 * h))) (digits-mod q s)
 
     go : (b : ℕ) → R % 2 ≡ b → closest (R * h + c) (2 * h) ≡ (R + 1) / 2
     go zero e =
@@ -79,7 +82,8 @@ closest-half R h c l g = go (R % 2) refl
     go (suc b) e =
         let o : R % 2 ≡ 1 = omega arith in
         let p : 0 < c = g o in
-        at (R / 2) (h + c) (ap (λ (x : ℕ). x * h + c) (odd R o) ∙ ap (λ (x : ℕ). x + c) (add-mul (R / 2 * 2) 1 h ∙ ap (λ (x : ℕ). x + 1 * h) (mul-assoc (R / 2) 2 h)) ∙ shuffle (R / 2 * (2 * h))) (omega arith)
+        at (R / 2) (h + c) (ap (λ (x : ℕ). x * h + c) (odd R o) ∙ ap (λ (x : ℕ). x + c) (add-mul (R / 2 * 2) 1 h ∙ ap (λ (x : ℕ). x + 1 * h) (mul-assoc (R / 2) 2 h))
+        ∙ shuffle (R / 2 * (2 * h))) (omega arith)
         ∙ nearest-gt (R / 2) ((h + c) * 2) (2 * h) (omega arith)
         ∙ next R o
       where
@@ -309,7 +313,8 @@ fields-zero f s t = refl
 
 pub fields-suc : (f : Format) (s : Bool) (y t : ℕ) → suc y < ones f → ofFields f s (suc y) t ≡ odd (prec f) s (hid f + t) y (low f)
 unfolding ofFields
-fields-suc f s y t h = cond-no (eqb (suc y) (ones f)) (cond (eqb t 0) (inf s) nan) (odd (prec f) s (hid f + t) y (low f)) (not-T (eqb (suc y) (ones f)) (λ (u : T (eqb (suc y) (ones f))). differ (suc y) (ones f) h (eqb→eq (suc y) (ones f) u)))
+fields-suc f s y t h = cond-no (eqb (suc y) (ones f)) (cond (eqb t 0) (inf s) nan) (odd (prec f) s (hid f + t) y (low f))
+    (not-T (eqb (suc y) (ones f)) (λ (u : T (eqb (suc y) (ones f))). differ (suc y) (ones f) h (eqb→eq (suc y) (ones f) u)))
   where
     differ : (a b : ℕ) → a < b → a ≡ b → ⊥
     differ a b l e = omega arith
@@ -321,7 +326,8 @@ root-low f t z A lo hi l =
     let g = emax f - 1 - z in
     ap (λ (v : Float). toBits f (root f v)) (fields-zero f false t)
     ∙ root-bits f (odd (prec f) false t 0 (low f)) (t * 2 ^ 0) (t * 2 ^ z) g (mul-pos A (pow-pos 0)) (odd-sign (prec f) false t 0 (low f))
-    (ap (λ (x : ℕ). x * 2 ^ suc (suc (low f))) (mul-one t) ∙ sym (mul-assoc t (2 ^ z) (2 ^ (prec f + 1 + g)) ∙ ap (λ (x : ℕ). t * x) (pow-sum z (prec f + 1 + g) (suc (suc (low f))) (place (prec f) (emax f) z (two f) l (le-of-lt (emax-ge f))))))
+    (ap (λ (x : ℕ). x * 2 ^ suc (suc (low f))) (mul-one t) ∙ sym (mul-assoc t (2 ^ z) (2 ^ (prec f + 1 + g))
+    ∙ ap (λ (x : ℕ). t * x) (pow-sum z (prec f + 1 + g) (suc (suc (low f))) (place (prec f) (emax f) z (two f) l (le-of-lt (emax-ge f))))))
     lo hi (room (emax f) z (le-trans (two f) (le-of-lt (emax-ge f))))
   where
     place : (p E z : ℕ) → 2 ≤ p → z ≤ E - 1 → p ≤ E → z + (p + 1 + (E - 1 - z)) ≡ suc (suc (E + p - 2))

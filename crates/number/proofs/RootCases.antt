@@ -72,7 +72,8 @@ negative-fields f (suc y) t h = go (eqb (suc y) (ones f)) (eqb t 0)
     go true true = refl
     go true false = refl
     go false b =
-        negative-value f (odd (prec f) true (hid f + t) y (low f)) ((hid f + t) * 2 ^ y) (2 ^ low f) (mul-pos (lt-of-lt-of-le (pow-pos (prec f - 1)) (le-add-right (hid f) t)) (pow-pos y)) (odd-sign (prec f) true (hid f + t) y (low f))
+        negative-value f (odd (prec f) true (hid f + t) y (low f)) ((hid f + t) * 2 ^ y) (2 ^ low f) (mul-pos (lt-of-lt-of-le (pow-pos (prec f - 1)) (le-add-right (hid f) t)) (pow-pos y))
+        (odd-sign (prec f) true (hid f + t) y (low f))
 
 pub negative-case : (f : Format) (x : Float) → T (fits f x) → (fieldOf f (toBits f x) + digitsOf f (toBits f x) ≡ 0 → ⊥) → top f ≤ toBits f x → nan ≡ root f x
 negative-case f x h n l =
@@ -111,7 +112,8 @@ inf-case f x h n l e =
     is ∙ sym (root-inf f) ∙ ap (root f) (sym is)
 
 -- ---- what is left: the bits of the root are those that were worked out from the fields
-pub rest-case : (f : Format) (x : Float) (r : ℕ) → T (fits f x) → toBits f x < top f → toBits f (root f (ofFields f false (fieldOf f (toBits f x)) (digitsOf f (toBits f x)))) ≡ r → toBits f (root f x) ≡ r
+pub rest-case : (f : Format) (x : Float) (r : ℕ) → T (fits f x) → toBits f x < top f → toBits f (root f (ofFields f false (fieldOf f (toBits f x)) (digitsOf f (toBits f x)))) ≡ r
+    → toBits f (root f x) ≡ r
 rest-case f x r h l e = ap (λ (v : Float). toBits f (root f v)) (sym (positive f x h l)) ∙ e
 
 pub root-fits : (f : Format) (x : Float) → T (fits f x) → T (fits f (root f x))

@@ -3,7 +3,9 @@
 use mathlib.Core.Path.{_≡_, refl, sym, ap, _∙_, subst}
 use mathlib.Core.Bool.{Bool, true, false, cond, _&&_}
 use Prim.Native.Nat.{ℕ, zero, suc, _+_, _-_, _*_, _/_, _%_, _^_, _≤_, _<_, zero-le}
-use native.Mathlib.Nat.{le-trans, le-of-eq, le-of-lt, lt-of-lt-of-le, lt-of-le-of-lt, lt-of-not-le, not-le-of-lt, zero-lt-suc, lt-irrefl, le-of-suc-le-suc, mul-comm, mul-assoc, mul-left-comm, mul-right-comm, mul-mul-mul-comm, mul-add, add-mul, one-mul, zero-mul, mul-pos, mul-one, mul-le-mul, mul-le-mul-left, mul-le-mul-right, mul-lt-mul-of-pos-right, le-of-mul-le-mul-right, pow-suc}
+use native.Mathlib.Nat.{le-trans, le-of-eq, le-of-lt, lt-of-lt-of-le, lt-of-le-of-lt, lt-of-not-le, not-le-of-lt, zero-lt-suc, lt-irrefl, le-of-suc-le-suc, mul-comm, mul-assoc, mul-left-comm}
+use native.Mathlib.Nat.{mul-right-comm, mul-mul-mul-comm, mul-add, add-mul, one-mul, zero-mul, mul-pos, mul-one, mul-le-mul, mul-le-mul-left, mul-le-mul-right, mul-lt-mul-of-pos-right}
+use native.Mathlib.Nat.{le-of-mul-le-mul-right, pow-suc}
 use native.Mathlib.Omega.{arith}
 use lib.Dec.{T, leb, ltb, eqb, leb→le, ltb→lt, eqb→eq, lit≤}
 use lib.Pow.{pow-add, pow-pos, pow-mono, pow-lt}
@@ -129,7 +131,8 @@ module _ (f : Format) (a : ℕ) (A : 0 < a) where
   large : P ≤ r
   large =
       root-le n P r
-      (le-trans (le-of-eq (sym (pow-add 2 (prec f) (prec f)))) (le-trans (pow-mono (digits f)) (le-trans (le-of-eq (sym (one-mul (2 ^ suc (suc (low f)))))) (mul-le-mul-right (2 ^ suc (suc (low f))) A))))
+      (le-trans (le-of-eq (sym (pow-add 2 (prec f) (prec f))))
+      (le-trans (pow-mono (digits f)) (le-trans (le-of-eq (sym (one-mul (2 ^ suc (suc (low f)))))) (mul-le-mul-right (2 ^ suc (suc (low f))) A))))
       (whole-root-is n .1)
 
   twice : P ≡ 2 * 2 ^ (prec f - 1)
@@ -154,7 +157,8 @@ module _ (f : Format) (a : ℕ) (A : 0 < a) where
       let c = 2 ^ suc (suc (low f)) in
       let k = kept (prec f) (Num n * L) c in
       let e : k * (c * h) ≡ 4 * g * L = ap (λ (x : ℕ). k * (x * h)) four ∙ regroup k h L in
-      let b : gap (4 * g * L) (Num n * L) * 2 ≤ c * h = subst (λ (x : ℕ). gap x (Num n * L) * 2 ≤ c * h) e (half (Num n * L) (c * h) (mul-pos (pow-pos (suc (suc (low f)))) (pow-pos (drop (prec f) (Num n * L) c)))) in
+      let b : gap (4 * g * L) (Num n * L) * 2 ≤ c * h = subst (λ (x : ℕ). gap x (Num n * L) * 2 ≤ c * h) e
+      (half (Num n * L) (c * h) (mul-pos (pow-pos (suc (suc (low f)))) (pow-pos (drop (prec f) (Num n * L) c)))) in
       let d : gap (4 * g) (Num n) * 2 ≤ 4 * h =
       le-of-mul-le-mul-right
       (le-trans (le-of-eq (mul-right-comm (gap (4 * g) (Num n)) 2 L ∙ ap (λ (x : ℕ). x * 2) (gap-mul (4 * g) (Num n) L))) (le-trans b (le-of-eq (ap (λ (x : ℕ). x * h) four ∙ mul-right-comm 4 L h))))
@@ -275,7 +279,8 @@ units-of f (fin u (suc m) e) s t h p =
       is = (h .0, ap (λ (k : ℕ). suc m * up e * k) (sym (r .1)) ∙ sym (mul-assoc (suc m * up e) (r .0) (down e)));
       bound =
           lt-of-lt-of-le (mul-lt-mul-of-pos-right top (first-pos (r .0) (down e) (subst (λ (k : ℕ). 0 < k) (sym (r .1)) (pow-pos (low f)))))
-          (le-of-eq (mul-assoc (2 ^ suc (emax f)) (down e) (r .0) ∙ ap (λ (k : ℕ). 2 ^ suc (emax f) * k) (mul-comm (down e) (r .0) ∙ r .1) ∙ mul-comm (2 ^ suc (emax f)) (2 ^ low f) ∙ sym (pow-add 2 (low f) (suc (emax f)))));
+          (le-of-eq (mul-assoc (2 ^ suc (emax f)) (down e) (r .0) ∙ ap (λ (k : ℕ). 2 ^ suc (emax f) * k) (mul-comm (down e) (r .0) ∙ r .1) ∙ mul-comm (2 ^ suc (emax f)) (2 ^ low f)
+          ∙ sym (pow-add 2 (low f) (suc (emax f)))));
     }
 
 -- of a fraction that is near a / c, any other way to write it

@@ -2,7 +2,8 @@
 use mathlib.Core.Path.{_≡_, sym, ap, _∙_}
 use mathlib.Core.Bool.{Bool, _&&_}
 use Prim.Native.Nat.{ℕ, zero, suc, _+_, _-_, _*_, _%_, _^_, _≤_, _<_}
-use native.Mathlib.Nat.{le-trans, le-of-eq, lt-of-lt-of-le, lt-of-le-of-lt, lt-irrefl, mul-comm, mul-assoc, mul-right-comm, mul-le-mul-left, mul-le-mul-right, mul-lt-mul-of-pos-right, lt-of-mul-lt-mul-right, add-mul, one-mul, zero-mul, mul-one}
+use native.Mathlib.Nat.{le-trans, le-of-eq, lt-of-lt-of-le, lt-of-le-of-lt, lt-irrefl, mul-comm, mul-assoc, mul-right-comm, mul-le-mul-left, mul-le-mul-right, mul-lt-mul-of-pos-right}
+use native.Mathlib.Nat.{lt-of-mul-lt-mul-right, add-mul, one-mul, zero-mul, mul-one}
 use native.Mathlib.Decide.{decLe}
 use native.Mathlib.Omega.{arith}
 use lib.Dec.{T, ltb, leb, eqb, ltb→lt, leb→le}
@@ -20,7 +21,8 @@ spaced p m j k one small reach = elim (decLe k j) [
   | yes l ↦ l
   | no l ↦
       let b : suc j ≤ k = omega arith in
-      absurd (lt-irrefl (2 ^ (p - 1) * 2 ^ k) (lt-of-le-of-lt reach (lt-of-lt-of-le (mul-lt-mul-of-pos-right small (pow-pos j)) (le-trans (le-of-eq same) (mul-le-mul-left (2 ^ (p - 1)) (pow-mono b))))))
+      absurd (lt-irrefl (2 ^ (p - 1) * 2 ^ k) (lt-of-le-of-lt reach
+      (lt-of-lt-of-le (mul-lt-mul-of-pos-right small (pow-pos j)) (le-trans (le-of-eq same) (mul-le-mul-left (2 ^ (p - 1)) (pow-mono b))))))
 ]
   where
     back : (p : ℕ) → 1 ≤ p → p + j ≡ p - 1 + suc j
@@ -71,9 +73,21 @@ unfolding fits
 digits-of f nan s t h = absurd h
 digits-of f (inf u) s t h = absurd h
 digits-of f (fin u zero e) s t h =
-    record { m = 0; j = 0; small = pow-pos (prec f); is = ap (λ (x : ℕ). x * 2 ^ low f) (zero-mul (up e)) ∙ zero-mul (2 ^ low f) ∙ sym (ap (λ (x : ℕ). x * down e) (zero-mul (2 ^ 0)) ∙ zero-mul (down e)) }
+    record {
+      m = 0;
+      j = 0;
+      small = pow-pos (prec f);
+      is = ap (λ (x : ℕ). x * 2 ^ low f) (zero-mul (up e)) ∙ zero-mul (2 ^ low f)
+          ∙ sym (ap (λ (x : ℕ). x * down e) (zero-mul (2 ^ 0)) ∙ zero-mul (down e));
+    }
 digits-of f (fin u (suc m) (pos k)) s t h =
-    record { m = suc m; j = k + low f; small = few-digits f (suc m) (pos k) t; is = mul-assoc (suc m) (2 ^ k) (2 ^ low f) ∙ ap (λ (x : ℕ). suc m * x) (sym (pow-add 2 k (low f))) ∙ sym (mul-one (suc m * 2 ^ (k + low f))) }
+    record {
+      m = suc m;
+      j = k + low f;
+      small = few-digits f (suc m) (pos k) t;
+      is = mul-assoc (suc m) (2 ^ k) (2 ^ low f) ∙ ap (λ (x : ℕ). suc m * x) (sym (pow-add 2 k (low f)))
+          ∙ sym (mul-one (suc m * 2 ^ (k + low f)));
+    }
 digits-of f (fin u (suc m) (negsuc k)) s t h =
     let l : suc k ≤ low f = exponent (suc k) (low f) (fine-enough f (suc m) (negsuc k) t) in
     record { m = suc m; j = low f - suc k; small = few-digits f (suc m) (negsuc k) t; is = ap (λ (x : ℕ). x * 2 ^ low f) (mul-one (suc m)) ∙ multiple (suc m) (low f) (suc k) l }

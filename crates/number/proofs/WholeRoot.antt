@@ -2,7 +2,9 @@
 -- is cutting 2 * j digits off the number (`root-cut`). Assumes nothing.
 use mathlib.Core.Path.{_≡_, refl, sym, ap, _∙_, subst}
 use Prim.Native.Nat.{ℕ, zero, suc, _+_, _*_, _/_, _%_, _^_, _≤_, _<_, zero-le}
-use native.Mathlib.Nat.{le-refl, le-trans, le-of-eq, le-antisymm, lt-irrefl, lt-of-lt-of-le, lt-of-not-le, le-of-suc-le-suc, zero-lt-suc, mul-comm, mul-assoc, mul-left-comm, mul-right-comm, mul-mul-mul-comm, mul-pos, one-mul, mul-add, add-mul, suc-mul, mul-le-mul, div-lt-iff-lt-mul, le-div-iff-mul-le, pow-suc, div-mul-le-self, le-of-mul-le-mul-right, lt-of-mul-lt-mul-right, mul-lt-mul-of-pos-right}
+use native.Mathlib.Nat.{le-refl, le-trans, le-of-eq, le-antisymm, lt-irrefl, lt-of-lt-of-le, lt-of-not-le, le-of-suc-le-suc, zero-lt-suc, mul-comm, mul-assoc, mul-left-comm, mul-right-comm}
+use native.Mathlib.Nat.{mul-mul-mul-comm, mul-pos, one-mul, mul-add, add-mul, suc-mul, mul-le-mul, div-lt-iff-lt-mul, le-div-iff-mul-le, pow-suc, div-mul-le-self, le-of-mul-le-mul-right}
+use native.Mathlib.Nat.{lt-of-mul-lt-mul-right, mul-lt-mul-of-pos-right}
 use native.Mathlib.Omega.{arith}
 use mathlib.Core.Bool.{Bool, true, false, not, cond}
 use lib.Dec.{T, leb, leb→le, nleb→lt, lit≤}
@@ -70,9 +72,11 @@ pub record Left (N P q y w : ℕ) : Type 0 where
 module _ (N P q y r w : ℕ) (W : w ≡ 2 * r) (L : Left N P q y w) where
   pub digit-set : (z : ℕ) → y ≡ z + (q + q + r) → Left N P (q + r) (z + z) r
   digit-set z e =
-      let a : (q + r) * (q + r) ≡ q * q + q * r + (q * r + r * r) = add-mul q r (q + r) ∙ ap (λ (x : ℕ). x + r * (q + r)) (mul-add q q r) ∙ ap (λ (x : ℕ). q * q + q * r + x) (mul-add r q r ∙ ap (λ (x : ℕ). x + r * r) (mul-comm r q)) in
+      let a : (q + r) * (q + r) ≡ q * q + q * r + (q * r + r * r) = add-mul q r (q + r) ∙ ap (λ (x : ℕ). x + r * (q + r)) (mul-add q q r)
+      ∙ ap (λ (x : ℕ). q * q + q * r + x) (mul-add r q r ∙ ap (λ (x : ℕ). x + r * r) (mul-comm r q)) in
       let b : (z + z) * r ≡ z * r + z * r = add-mul z z r in
-      let c : y * r ≡ z * r + (q * r + q * r + r * r) = ap (λ (x : ℕ). x * r) e ∙ add-mul z (q + q + r) r ∙ ap (λ (x : ℕ). z * r + x) (add-mul (q + q) r r ∙ ap (λ (x : ℕ). x + r * r) (add-mul q q r)) in
+      let c : y * r ≡ z * r + (q * r + q * r + r * r) = ap (λ (x : ℕ). x * r) e ∙ add-mul z (q + q + r) r
+      ∙ ap (λ (x : ℕ). z * r + x) (add-mul (q + q) r r ∙ ap (λ (x : ℕ). x + r * r) (add-mul q q r)) in
       let d : y * w ≡ 2 * (y * r) = ap (λ (x : ℕ). y * x) W ∙ mul-left-comm y 2 r in
       let x = L .exact in
       let s = L .small in
@@ -93,7 +97,8 @@ digits-done N P k y u U L =
     let q = k * u in
     let R = wholeRoot N in
     let i = whole-root-is N in
-    let a : (q + u) * (q + u) ≡ q * q + q * u + (q * u + u * u) = add-mul q u (q + u) ∙ ap (λ (x : ℕ). x + u * (q + u)) (mul-add q q u) ∙ ap (λ (x : ℕ). q * q + q * u + x) (mul-add u q u ∙ ap (λ (x : ℕ). x + u * u) (mul-comm u q)) in
+    let a : (q + u) * (q + u) ≡ q * q + q * u + (q * u + u * u) = add-mul q u (q + u) ∙ ap (λ (x : ℕ). x + u * (q + u)) (mul-add q q u)
+    ∙ ap (λ (x : ℕ). q * q + q * u + x) (mul-add u q u ∙ ap (λ (x : ℕ). x + u * u) (mul-comm u q)) in
     let b : (4 * q + 2 * u) * u ≡ 4 * (q * u) + 2 * (u * u) = add-mul (4 * q) (2 * u) u ∙ ap (λ (x : ℕ). x + 2 * u * u) (mul-assoc 4 q u) ∙ ap (λ (x : ℕ). 4 * (q * u) + x) (mul-assoc 2 u u) in
     let c : y * u < (4 * q + 2 * u) * u = mul-lt-mul-of-pos-right (L .small) U in
     let x = L .exact in

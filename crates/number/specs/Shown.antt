@@ -11,10 +11,12 @@ narrowBits a = toBits binary32 (narrow (ofBits binary64 a))
 rootBits : Format → ℕ → ℕ
 rootBits f a = toBits f (root f (ofBits f a))
 
--- 1/3, 1e39, 1e-46, half of the smallest f32 (a tie, to 0), one and a half of it (a tie, to 2), 1e-40, -1e-40, 2 ^ 24 + 1 (a tie), the largest f64 that still rounds down to a finite f32, the next (a tie, to an infinity), -0, an infinity
+-- 1/3, 1e39, 1e-46, half of the smallest f32 (a tie, to 0), one and a half of it (a tie, to 2), 1e-40, -1e-40, 2 ^ 24 + 1 (a tie), the largest f64 that still
+-- rounds down to a finite f32, the next (a tie, to an infinity), -0, an infinity
 narrowed :
     map narrowBits
-    (0x3fd5_5555_5555_5555 ∷ 0x4807_8287_f49c_4a1d ∷ 0x3666_244c_e242_c556 ∷ 0x3690_0000_0000_0000 ∷ 0x36a8_0000_0000_0000 ∷ 0x37a1_6c26_2777_579c ∷ 0xb7a1_6c26_2777_579c ∷ 0x4170_0000_1000_0000 ∷ 0x47ef_ffff_efff_ffff ∷ 0x47ef_ffff_f000_0000 ∷ 0x8000_0000_0000_0000 ∷ 0x7ff0_0000_0000_0000 ∷ [])
+    (0x3fd5_5555_5555_5555 ∷ 0x4807_8287_f49c_4a1d ∷ 0x3666_244c_e242_c556 ∷ 0x3690_0000_0000_0000 ∷ 0x36a8_0000_0000_0000 ∷ 0x37a1_6c26_2777_579c ∷ 0xb7a1_6c26_2777_579c ∷ 0x4170_0000_1000_0000
+    ∷ 0x47ef_ffff_efff_ffff ∷ 0x47ef_ffff_f000_0000 ∷ 0x8000_0000_0000_0000 ∷ 0x7ff0_0000_0000_0000 ∷ [])
     ≡ 0x3eaa_aaab ∷ 0x7f80_0000 ∷ 0 ∷ 0 ∷ 2 ∷ 0x0001_16c2 ∷ 0x8001_16c2 ∷ 0x4b80_0000 ∷ 0x7f7f_ffff ∷ 0x7f80_0000 ∷ 0x8000_0000 ∷ 0x7f80_0000 ∷ []
 unfolding narrowBits narrow ofBits toBits
 narrowed = refl

@@ -3,7 +3,8 @@ use Prim.Native.Nat.{ℕ, zero, suc, _+_, _-_, _*_, _%_, _^_, _<_, _≤_, zero-l
 use mathlib.Core.Path.{_≡_, refl, sym, ap, subst, _∙_}
 use mathlib.Core.Bool.{Bool, true, false, not, cond, _&&_, _||_}
 use mathlib.Core.List.{List}
-use native.Mathlib.Nat.{le-refl, le-trans, le-of-lt, le-of-eq, lt-of-le-of-lt, mul-assoc, mul-comm, mul-left-comm, mul-one, mul-mul-mul-comm, zero-mul, suc-mul, add-mul, mul-le-mul, mul-le-mul-right, mul-pos, le-of-mul-le-mul-right}
+use native.Mathlib.Nat.{le-refl, le-trans, le-of-lt, le-of-eq, lt-of-le-of-lt, mul-assoc, mul-comm, mul-left-comm, mul-one, mul-mul-mul-comm, zero-mul, suc-mul, add-mul, mul-le-mul, mul-le-mul-right}
+use native.Mathlib.Nat.{mul-pos, le-of-mul-le-mul-right}
 use native.Mathlib.Omega.{arith}
 use native.Mathlib.Decide.{decLe}
 use lib.Dec.{T, leb, ltb, eqb, ltb→lt, eqb→eq, lit≤, lit<}

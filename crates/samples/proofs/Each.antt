@@ -30,6 +30,7 @@ each-on f s before now k count r i =
     (λ j h. ap f (ap (λ (l : List Float). getD l j nan) i ∙ filled-past (λ (p : ℕ). f (getD s p nan)) k s nan j h)) r i
 
 -- the last run ends at the length
-pub each-done : (f : Float → Float) (s before now : List Float) (k count : ℕ) → length s ≤ 65536 → k + count ≡ length s → now ≡ eachFrom f k count before → before ≡ eachTo f s k → left Done now ≡ each f s
+pub each-done : (f : Float → Float) (s before now : List Float) (k count : ℕ) → length s ≤ 65536 → k + count ≡ length s → now ≡ eachFrom f k count before → before ≡ eachTo f s k
+    → left Done now ≡ each f s
 unfolding each
 each-done f s before now k count h e r i = simp (le-ltb _ _ h) (ap (left Done) (each-on f s before now k count r i ∙ (ap (eachTo f s) e ∙ filled-map f nan s)))

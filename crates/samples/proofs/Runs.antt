@@ -39,11 +39,13 @@ from-set f (suc from) k (o ∷ out) zero e h = absurd (omega arith)
 from-set f (suc from) k (o ∷ out) (suc p) e h = ap (λ (l : List Float). o ∷ l) (from-set (λ (j : ℕ). f (suc j)) from k out p (omega arith) (omega arith))
 
 -- one turn
-pub from-next : (f : ℕ → Float) (from k p : ℕ) (out now : List Float) (v : Float) → p ≡ from + k → p < length out → v ≡ f p → now ≡ filledFrom f from k out → set now p v ≡ filledFrom f from (k + 1) out
+pub from-next : (f : ℕ → Float) (from k p : ℕ) (out now : List Float) (v : Float) → p ≡ from + k → p < length out → v ≡ f p → now ≡ filledFrom f from k out
+    → set now p v ≡ filledFrom f from (k + 1) out
 from-next f from k p out now v q h e i = rw (e, i) (from-set f from k out p q h)
 
 -- four stores in a row
-pub from-four : (f : ℕ → Float) (from : ℕ) (out : List Float) (w x y z : Float) → from + 4 ≤ length out → w ≡ f from → x ≡ f (from + 1) → y ≡ f (from + 2) → z ≡ f (from + 3) → set (set (set (set out from w) (from + 1) x) (from + 2) y) (from + 3) z ≡ filledFrom f from 4 out
+pub from-four : (f : ℕ → Float) (from : ℕ) (out : List Float) (w x y z : Float) → from + 4 ≤ length out → w ≡ f from → x ≡ f (from + 1) → y ≡ f (from + 2) → z ≡ f (from + 3)
+    → set (set (set (set out from w) (from + 1) x) (from + 2) y) (from + 3) z ≡ filledFrom f from 4 out
 from-four f from out w x y z h a b c d =
     from-next f from 3 (from + 3) out _ z refl (omega arith) d
     (from-next f from 2 (from + 2) out _ y refl (omega arith) c
@@ -54,10 +56,12 @@ from-filled : (f g : ℕ → Float) (from k : ℕ) (out : List Float) → ((j : 
 unfolding filled filledFrom
 from-filled f g zero k out same = rw (zero-add k) (ap (λ (h : ℕ → Float). filled h k out) (fun-ext (λ (j : ℕ). same j (omega arith))))
 from-filled f g (suc from) k [] same = rw (suc-add from k) refl
-from-filled f g (suc from) k (o ∷ out) same = rw (suc-add from k) (ap (λ (l : List Float). f zero ∷ l) (from-filled (λ (j : ℕ). f (suc j)) (λ (j : ℕ). g (suc j)) from k out (λ j h. same (suc j) (omega arith))))
+from-filled f g (suc from) k (o ∷ out) same = rw (suc-add from k)
+    (ap (λ (l : List Float). f zero ∷ l) (from-filled (λ (j : ℕ). f (suc j)) (λ (j : ℕ). g (suc j)) from k out (λ j h. same (suc j) (omega arith))))
 
 -- a run behind the places that are filled, which writes there what belongs there
-pub from-on : (f g : ℕ → Float) (out before now : List Float) (from k : ℕ) → ((j : ℕ) → from ≤ j → g j ≡ f j) → now ≡ filledFrom g from k before → before ≡ filled f from out → now ≡ filled f (from + k) out
+pub from-on : (f g : ℕ → Float) (out before now : List Float) (from k : ℕ) → ((j : ℕ) → from ≤ j → g j ≡ f j) → now ≡ filledFrom g from k before → before ≡ filled f from out
+    → now ≡ filled f (from + k) out
 from-on f g out before now from k same r i = r ∙ (ap (filledFrom g from k) i ∙ from-filled f g from k out same)
 
 from-run : (f : ℕ → Float) (from k m : ℕ) (out : List Float) (p : ℕ) → p ≡ from + k → filledFrom f p m (filledFrom f from k out) ≡ filledFrom f from (k + m) out

@@ -2,7 +2,8 @@
 use mathlib.Core.Path.{_≡_, sym, ap, _∙_, subst}
 use mathlib.Core.Bool.{true}
 use Prim.Native.Nat.{ℕ, zero, suc, _+_, _*_, _/_, _%_, _<_, _≤_}
-use native.Mathlib.Nat.{mul-assoc, add-comm, add-mul, mul-add, mul-one, mul-left-comm, mul-zero, zero-mod, zero-mul, zero-div, mod-lt, mod-eq-of-lt, mod-add-mod, div-add-mod', add-mul-mod-self-right, mul-div-right, mul-lt-mul-of-pos-right}
+use native.Mathlib.Nat.{mul-assoc, add-comm, add-mul, mul-add, mul-one, mul-left-comm, mul-zero, zero-mod, zero-mul, zero-div, mod-lt, mod-eq-of-lt, mod-add-mod, div-add-mod', add-mul-mod-self-right}
+use native.Mathlib.Nat.{mul-div-right, mul-lt-mul-of-pos-right}
 use native.Mathlib.Omega.{arith}
 use Rattle.quarter.specs.Turn.{sineOf, cosineOf}
 use Rattle.spectrum.specs.Grid.{onGrid}

@@ -134,5 +134,10 @@ starred =
 -- ---- the statement
 
 pub starred-hold : map (λ (r : Row). answerTo (r .call)) starred ≡ map (λ (r : Row). r .answer) starred
-unfolding answerOf powerOutcome powerOf recordOf sumTo mean64 activeOf narrowedRoot apparentOf ratioOrZero aboveZero reactiveOf over pairs totalOf narrowedMean higher lower risesAt firstOf crossingAt crossingsOf frequencyFrom frequencyAbout slewAt steepestOf slewOf frequencyAnswer slewAnswer maxOf minOf riseStarts riseGrows fallStarts fallGrows fourTests riseFallOf spectrumOf outcomeOf onGrid lengths ifDone filled binOf halved magnitudeOf sizeOf sumsOf sumsTo turned angleOf stepOf sineOf cosineOf quadrant fraction quarterTable onto within isDigit digitOf codeOf pairAt wordAt allDigits sequenceOf countOf rightForm sumOf rightSum lineOf runCodes codesBy lineCodes addLine cut codesOf follows after weigh judge verdictOf settle readCapture narrow root wholeRoot rootIn abs add sub mul div neg sum round units odd size span climb trailingZeros lt le ofInt ofBits ofFields
+unfolding answerOf powerOutcome powerOf recordOf sumTo mean64 activeOf narrowedRoot apparentOf ratioOrZero aboveZero reactiveOf over pairs totalOf narrowedMean
+    higher lower risesAt firstOf crossingAt crossingsOf frequencyFrom frequencyAbout slewAt steepestOf slewOf frequencyAnswer slewAnswer maxOf minOf riseStarts
+    riseGrows fallStarts fallGrows fourTests riseFallOf spectrumOf outcomeOf onGrid lengths ifDone filled binOf halved magnitudeOf sizeOf sumsOf sumsTo turned
+    angleOf stepOf sineOf cosineOf quadrant fraction quarterTable onto within isDigit digitOf codeOf pairAt wordAt allDigits sequenceOf countOf rightForm sumOf
+    rightSum lineOf runCodes codesBy lineCodes addLine cut codesOf follows after weigh judge verdictOf settle readCapture narrow root wholeRoot rootIn abs add
+    sub mul div neg sum round units odd size span climb trailingZeros lt le ofInt ofBits ofFields
 starred-hold = refl

@@ -121,7 +121,8 @@ above-number w (inf t) e = tt
 above-number w (fin t n d) e = tt
 
 -- the largest slew rate stays over steps that are not above w
-pub unchanged : (dt m w : Float) (xs : List Float) (from r : ℕ) → Covered dt m w → 1 ≤ from → NextAbove xs w from r → m ≡ pairs (slewAt dt) zero32 xs (from - 1) → m ≡ pairs (slewAt dt) zero32 xs (r - 1)
+pub unchanged : (dt m w : Float) (xs : List Float) (from r : ℕ) → Covered dt m w → 1 ≤ from → NextAbove xs w from r → m ≡ pairs (slewAt dt) zero32 xs (from - 1)
+    → m ≡ pairs (slewAt dt) zero32 xs (r - 1)
 unfolding slewAt
 unchanged dt m w xs from r v l n e = subst (λ (i : ℕ). m ≡ pairs (slewAt dt) zero32 xs (i - 1)) (whole (n .reached)) (go (r - from) (omega (arith, n .reached)))
   where

@@ -16,7 +16,8 @@ held : (c : tie.Start) → T (fits binary64 (c .args .x))
 held c = subst T (sym (c .good .0 .1)) tt
 
 -- the pattern that is made is the bits of the answer
-made : (c : tie.After-narrow-fields) → toBits binary32 (narrow (c .before .before .args .x)) ≡ bitOr (toBits binary64 (c .before .before .args .x) / 2 ^ 63 * 2 ^ 31 % 2 ^ 64) (c .narrow-fields .result)
+made : (c : tie.After-narrow-fields) → toBits binary32 (narrow (c .before .before .args .x))
+    ≡ bitOr (toBits binary64 (c .before .before .args .x) / 2 ^ 63 * 2 ^ 31 % 2 ^ 64) (c .narrow-fields .result)
 made c =
     let x = c .before .before .args .x in
     let b = toBits binary64 x in
@@ -44,7 +45,10 @@ narrow-fields-requires c κs =
 cast-result : tie.Need-cast-result
 cast-result c =
     let x = c .before .before .args .x in
-    record { fits = joined-lt (signOf binary64 (toBits binary64 x)) (joined binary64 x (c .narrow-fields .result) (held (c .before .before)) (c .narrow-fields .ensures .1)) (c .narrow-fields .ensures .1) }
+    record {
+      fits = joined-lt (signOf binary64 (toBits binary64 x)) (joined binary64 x (c .narrow-fields .result) (held (c .before .before)) (c .narrow-fields .ensures .1))
+          (c .narrow-fields .ensures .1);
+    }
 
 float-from-bits-result : tie.Need-float-from-bits-result
 float-from-bits-result c =

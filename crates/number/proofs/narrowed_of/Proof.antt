@@ -37,7 +37,8 @@ here c =
     let m = c .before .args .m in
     let g = c .before .args .g in
     let d = c .root-digits in
-    first (Digits m g) (d .result .root) (d .result .rest) (d .ensures .1 .0 ∙ ap (λ (x : ℕ). (x + 1) * 2 ^ 54 + (x + 1) * 2 ^ 54) (doubled m g 53 (search needs) (lit≤ tt))) (d .ensures .1 .1) (least m g (search needs)) (under-room m g (search needs))
+    first (Digits m g) (d .result .root) (d .result .rest) (d .ensures .1 .0
+    ∙ ap (λ (x : ℕ). (x + 1) * 2 ^ 54 + (x + 1) * 2 ^ 54) (doubled m g 53 (search needs) (lit≤ tt))) (d .ensures .1 .1) (least m g (search needs)) (under-room m g (search needs))
 
 few : (r e : ℕ) → r ≡ e * 2 ^ 26 → r ≤ 2 ^ 27 → e ≤ 2
 few r e h l = omega arith
@@ -79,7 +80,8 @@ returns c =
     let h = here d in
     let e = Rest m g (d .root-digits .result .root) in
     let N = Digits m g * 2 ^ 54 in
-    ap₂ (λ (x y : ℕ). x + y) (field-is g (search needs)) (c .nearest-shr .ensures ∙ even-half (Digits m g) (d .root-digits .result .root) e (wholeRoot N) (h .1) (whole-root-is N) (few _ e (h .0) (c .before .if1 .taken)))
+    ap₂ (λ (x y : ℕ). x + y) (field-is g (search needs)) (c .nearest-shr .ensures
+    ∙ even-half (Digits m g) (d .root-digits .result .root) e (wholeRoot N) (h .1) (whole-root-is N) (few _ e (h .0) (c .before .if1 .taken)))
 
 add-result-2 : tie.Need-add-result-2
 add-result-2 c = let b = here (c .before) .1 .below in omega arith

@@ -97,7 +97,8 @@ again N P j r y w A R t (inl a) (inl b) =
       i = t .i;
       reached = t .reached;
       weight = ap (λ (x : ℕ). x / 2) v;
-      left = subst (λ (x : ℕ). Left N P x (y + y - A) (2 ^ t .i)) q (subst (λ (x : ℕ). Left N P (r / 2) x (2 ^ t .i)) d (subst (λ (x : ℕ). Left N P (r / 2) (y + y) x) v (digit-clear N P (r / 2) y w (2 * w) refl (t .left) (omega arith))));
+      left = subst (λ (x : ℕ). Left N P x (y + y - A) (2 ^ t .i)) q
+          (subst (λ (x : ℕ). Left N P (r / 2) x (2 ^ t .i)) d (subst (λ (x : ℕ). Left N P (r / 2) (y + y) x) v (digit-clear N P (r / 2) y w (2 * w) refl (t .left) (omega arith))));
       even = omega arith;
       many = t .many * 2;
       whole = sym q ∙ t .whole ∙ sym (mul-assoc (t .many) 2 w) ∙ ap (λ (x : ℕ). t .many * 2 * x) v;
@@ -115,7 +116,8 @@ again N P j r y w A R t (inr a) (inr b) =
       i = t .i;
       reached = t .reached;
       weight = ap (λ (x : ℕ). x / 2) v;
-      left = subst (λ (x : ℕ). Left N P x (y + y - A) (2 ^ t .i)) q (subst (λ (x : ℕ). Left N P (r / 2 + w) x (2 ^ t .i)) d (subst (λ (x : ℕ). Left N P (r / 2 + w) (z + z) x) v (digit-set N P (r / 2) y w (2 * w) refl (t .left) z (omega arith))));
+      left = subst (λ (x : ℕ). Left N P x (y + y - A) (2 ^ t .i)) q
+          (subst (λ (x : ℕ). Left N P (r / 2 + w) x (2 ^ t .i)) d (subst (λ (x : ℕ). Left N P (r / 2 + w) (z + z) x) v (digit-set N P (r / 2) y w (2 * w) refl (t .left) z (omega arith))));
       even = omega arith;
       many = t .many * 2 + 1;
       whole = sym q ∙ ap (λ (x : ℕ). x + w) (t .whole ∙ sym (mul-assoc (t .many) 2 w)) ∙ sym m ∙ ap (λ (x : ℕ). (t .many * 2 + 1) * x) v;
@@ -157,7 +159,8 @@ answered N P j r y w H l =
     double x y a b = omega arith
 
 here : (c : tie.In-loop Inv-loop μ-loop)
-    → Turn (c .before .before .args .m * 2 ^ (c .before .before .args .p + 1)) (2 ^ (c .before .before .args .p + 1)) (c .before .before .args .j) (c .before .loop .r) (c .before .loop .y) (c .before .loop .w)
+    → Turn (c .before .before .args .m * 2 ^ (c .before .before .args .p + 1)) (2 ^ (c .before .before .args .p + 1)) (c .before .before .args .j) (c .before .loop .r) (c .before .loop .y)
+    (c .before .loop .w)
 here c =
     let a = c .before .before .args in
     let l = c .before .loop in

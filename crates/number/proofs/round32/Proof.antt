@@ -24,10 +24,12 @@ pattern : (c : tie.After-away-fields) → bitOr (toBits binary32 (c .before .bef
 pattern c = joined binary32 (c .before .before .before .args .x) (c .away-fields .result) (held (c .before .before .before)) (c .away-fields .ensures .1)
 
 -- which are the bits of the answer
-made : (c : tie.After-away-fields) → toBits binary32 (roundAway binary32 (c .before .before .before .args .x)) ≡ bitOr (toBits binary32 (c .before .before .before .args .x) / 2 ^ 31 * 2 ^ 31 % 2 ^ 64) (c .away-fields .result)
+made : (c : tie.After-away-fields) → toBits binary32 (roundAway binary32 (c .before .before .before .args .x))
+    ≡ bitOr (toBits binary32 (c .before .before .before .args .x) / 2 ^ 31 * 2 ^ 31 % 2 ^ 64) (c .away-fields .result)
 made c =
     let s = c .before .before .before in
-    ap (λ (v : Float). toBits binary32 (roundAway binary32 v)) (sym (read-fields binary32 (s .args .x) (held s))) ∙ c .away-fields .ensures .0 (signOf binary32 (toBits binary32 (s .args .x))) ∙ sym (pattern c)
+    ap (λ (v : Float). toBits binary32 (roundAway binary32 v)) (sym (read-fields binary32 (s .args .x) (held s))) ∙ c .away-fields .ensures .0 (signOf binary32 (toBits binary32 (s .args .x)))
+    ∙ sym (pattern c)
 
 returns : tie.Need-returns
 returns c = away-of-nan (c .before .args .x) (is-nan (c .before .args .x) (c .if1 .taken))
@@ -45,7 +47,8 @@ returns-2 c =
     let b = toBits binary32 x in
     let e = read-fields binary32 x (held s) in
     sym e
-    ∙ away-whole (signOf binary32 b) (fieldOf binary32 b) (digitsOf binary32 b) (c .if2 .taken) (field-lt binary32 b) (digits-lt binary32 b) (no-digits binary32 x (held s) (no-nan x (c .before .if1 .left)))
+    ∙ away-whole (signOf binary32 b) (fieldOf binary32 b) (digitsOf binary32 b) (c .if2 .taken) (field-lt binary32 b) (digits-lt binary32 b)
+    (no-digits binary32 x (held s) (no-nan x (c .before .if1 .left)))
     ∙ ap (roundAway binary32) e
 
 away-fields-requires : tie.Need-away-fields-requires

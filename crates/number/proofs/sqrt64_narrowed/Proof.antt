@@ -80,7 +80,8 @@ float-from-bits-result c =
     let d = c .before .before .before in
     let x = d .before .args .x in
     let y = root binary64 x in
-    written-no-nan binary32 (narrow y) _ (narrow-fits y) (narrow-no-nan y (root-no-nan binary64 x (held (d .before)) (no-nan x (d .if1 .left)) (no-sign (toBits binary64 x) (c .before .if3 .taken)))) (made c)
+    written-no-nan binary32 (narrow y) _ (narrow-fits y) (narrow-no-nan y (root-no-nan binary64 x (held (d .before)) (no-nan x (d .if1 .left)) (no-sign (toBits binary64 x) (c .before .if3 .taken))))
+    (made c)
 
 returns-2 : tie.Need-returns-2
 unfolding narrowedRoot

@@ -32,8 +32,10 @@ same-length c = search needs
 returns-2 : tie.Need-returns-2
 returns-2 c =
     let start = c .before .before .before .before .before .before .before .before .before .before in
-    done (now (start .args .samples)) (now (start .args .output)) (c .before .before .before .before .before .before .before .judged .result) (c .before .before .before .before .before .before .number-of .result)
-    (c .before .before .before .before .before .before .before .judged .ensures) (c .before .before .before .before .before .before .number-of .ensures) (c .before .before .before .before .before .if1 .left) _ (c .before .before .fill .ensures)
+    done (now (start .args .samples)) (now (start .args .output)) (c .before .before .before .before .before .before .before .judged .result)
+    (c .before .before .before .before .before .before .number-of .result)
+    (c .before .before .before .before .before .before .before .judged .ensures) (c .before .before .before .before .before .before .number-of .ensures)
+    (c .before .before .before .before .before .if1 .left) _ (c .before .before .fill .ensures)
 
 pub dft-magnitude-spectrum-spec : {M : Type 1} → statement M
 dft-magnitude-spectrum-spec =

@@ -35,8 +35,11 @@ same-length-2 c = search needs
 returns-2 : tie.Need-returns-2
 returns-2 c =
     let start = c .before .before .before .before .before .before .before .before .before .before .before .before .before .before in
-    done-in (now (start .args .samples)) (now (start .args .scratch)) (now (start .args .output)) (c .before .before .before .before .before .before .before .before .before .before .judged .result) (c .before .before .before .before .before .before .before .before .before .number-of .result)
-    (c .before .before .before .before .before .before .before .before .before .before .judged .ensures) (c .before .before .before .before .before .before .before .before .before .number-of .ensures) (c .before .before .before .before .before .before .before .before .if1 .left) _ _ (c .before .before .before .before .fill-in .ensures .1) (c .before .before .before .before .fill-in .ensures .0)
+    done-in (now (start .args .samples)) (now (start .args .scratch)) (now (start .args .output)) (c .before .before .before .before .before .before .before .before .before .before .judged .result)
+    (c .before .before .before .before .before .before .before .before .before .number-of .result)
+    (c .before .before .before .before .before .before .before .before .before .before .judged .ensures) (c .before .before .before .before .before .before .before .before .before .number-of .ensures)
+    (c .before .before .before .before .before .before .before .before .if1 .left) _ _ (c .before .before .before .before .fill-in .ensures .1)
+    (c .before .before .before .before .fill-in .ensures .0)
 
 pub dft-magnitude-spectrum-in-spec : {M : Type 1} → statement M
 dft-magnitude-spectrum-in-spec =

@@ -26,10 +26,18 @@ below-length : (bin order last n : ℕ) → order ≤ last → bin * last < n �
 below-length bin order last n l h f = let p = lt-of-le-of-lt (mul-le-mul-left bin l) h in (omega arith, p)
 
 mul-bin-magnitude : tie.Need-mul-bin-magnitude Inv-loop μ-loop
-mul-bin-magnitude c = below-length (c .before .before .before .args .bin) (c .before .loop .order) (c .before .before .before .args .last) _ (omega arith) (c .before .before .before .pre .1 .1 .0) (c .before .before .before .good .1 .0 .0) .0
+mul-bin-magnitude c = below-length (c .before .before .before .args .bin) (c .before .loop .order) (c .before .before .before .args .last) _ (omega arith) (c .before .before .before .pre .1 .1 .0)
+    (c .before .before .before .good .1 .0 .0) .0
 
 bin-magnitude-requires : tie.Need-bin-magnitude-requires Inv-loop μ-loop
-bin-magnitude-requires c κs = (c .before .before .before .pre .0, (c .before .before .before .pre .1 .0, below-length (c .before .before .before .args .bin) (c .before .loop .order) (c .before .before .before .args .last) _ (omega arith) (c .before .before .before .pre .1 .1 .0) (c .before .before .before .good .1 .0 .0) .1))
+bin-magnitude-requires c κs = (
+  c .before .before .before .pre .0,
+  (
+    c .before .before .before .pre .1 .0,
+    below-length (c .before .before .before .args .bin) (c .before .loop .order) (c .before .before .before .args .last) _ (omega arith)
+        (c .before .before .before .pre .1 .1 .0) (c .before .before .before .good .1 .0 .0) .1,
+  ),
+)
 
 with-square-requires : tie.Need-with-square-requires Inv-loop μ-loop
 with-square-requires c κs = search needs

@@ -22,7 +22,8 @@ use Rattle.figures.proofs.levels.sum_up.Statement.{statement}
 use Rattle.figures.proofs.levels.sum_up.Tie as tie
 
 abbrev Inv-loop : tie.InvT-loop
-Inv-loop samples total₀ squares₀ sizes₀ k₀ total squares sizes k = (k ≤ length samples) × (total ≡ over (add binary64) zero64 samples k) × (squares ≡ over (adding squareOf) zero64 samples k) × (sizes ≡ over (adding abs) zero64 samples k)
+Inv-loop samples total₀ squares₀ sizes₀ k₀ total squares sizes k =
+    (k ≤ length samples) × (total ≡ over (add binary64) zero64 samples k) × (squares ≡ over (adding squareOf) zero64 samples k) × (sizes ≡ over (adding abs) zero64 samples k)
 
 abbrev μ-loop : tie.MeasureT-loop
 μ-loop samples total₀ squares₀ sizes₀ k₀ total squares sizes k = length samples - k
@@ -57,7 +58,8 @@ float-to-float-sizes : tie.Need-float-to-float-sizes Inv-loop μ-loop
 float-to-float-sizes c =
     let x = getD (now (c .before .before .before .before .before .before .before .before .args .samples)) (c .before .before .before .before .before .before .loop .k) nan in
     let y = c .before .abs32 .result in
-    and-i (fits binary64 y) (not (isNan y)) (fits-widens y (c .row-known2 .given)) (subst (λ (z : Float). T (not (isNan z))) (sym (c .before .abs32 .ensures)) (size-number x (no-nan x (c .before .before .before .if1 .left))))
+    and-i (fits binary64 y) (not (isNan y)) (fits-widens y (c .row-known2 .given))
+    (subst (λ (z : Float). T (not (isNan z))) (sym (c .before .abs32 .ensures)) (size-number x (no-nan x (c .before .before .before .if1 .left))))
 
 add-k : tie.Need-add-k Inv-loop μ-loop
 add-k c = search needs
@@ -69,8 +71,12 @@ loop-again : tie.Need-loop-again Inv-loop μ-loop
 unfolding squareOf
 loop-again c =
     let l = c .before .before .before .before .before .before .loop in
-    let xs = now (c .before .before .before .before .before .before .before .before .args .samples) in
-    (omega arith, over-next (add binary64) zero64 xs (l .k) (l .inv .1) refl, over-next (adding squareOf) zero64 xs (l .k) (l .inv .2) refl, rw (c .before .abs32 .ensures) (over-next (adding abs) zero64 xs (l .k) (l .inv .3) refl))
+    let xs = now (c .before .before .before .before .before .before .before .before .args .samples) in (
+      omega arith,
+      over-next (add binary64) zero64 xs (l .k) (l .inv .1) refl,
+      over-next (adding squareOf) zero64 xs (l .k) (l .inv .2) refl,
+      rw (c .before .abs32 .ensures) (over-next (adding abs) zero64 xs (l .k) (l .inv .3) refl),
+    )
 
 returns-2 : tie.Need-returns-2 Inv-loop μ-loop
 unfolding totalOf sumOf

@@ -17,7 +17,8 @@ use Rattle.power.proofs.blocks.products.Statement.{statement}
 use Rattle.power.proofs.blocks.products.Tie as tie
 
 abbrev Inv-loop : tie.InvT-loop
-Inv-loop voltage current from count vi₀ vv₀ ii₀ j₀ vi vv ii j = (j ≤ count) × (vi ≡ filled (productFrom voltage current from) j vi₀) × (vv ≡ filled (productFrom voltage voltage from) j vv₀) × (ii ≡ filled (productFrom current current from) j ii₀)
+Inv-loop voltage current from count vi₀ vv₀ ii₀ j₀ vi vv ii j =
+    (j ≤ count) × (vi ≡ filled (productFrom voltage current from) j vi₀) × (vv ≡ filled (productFrom voltage voltage from) j vv₀) × (ii ≡ filled (productFrom current current from) j ii₀)
 
 abbrev μ-loop : tie.MeasureT-loop
 μ-loop voltage current from count vi₀ vv₀ ii₀ j₀ vi vv ii j = count - j
@@ -109,8 +110,13 @@ loop-again c =
     let i = start .args .current .now in
     let from = start .args .from in
     let room = start .pre .1 .1 .1 .1 .1 in
-    let fill : (x y : List Float) (now out : List Float) → length out ≡ 32 → now ≡ filled (productFrom x y from) (l .j) out → set now (l .j) (productFrom x y from (l .j)) ≡ filled (productFrom x y from) (l .j + 1) out = λ x y now out e h. filled-next (productFrom x y from) (l .j) out now _ (omega arith) refl h in
-    (omega arith, fill v i (l .vi) (now (start .args .vi)) (room .0) (l .inv .1), fill v v (l .vv) (now (start .args .vv)) (room .1 .0) (l .inv .2), fill i i (l .ii) (now (start .args .ii)) (room .1 .1) (l .inv .3))
+    let fill : (x y : List Float) (now out : List Float) → length out ≡ 32 → now ≡ filled (productFrom x y from) (l .j) out
+    → set now (l .j) (productFrom x y from (l .j)) ≡ filled (productFrom x y from) (l .j + 1) out = λ x y now out e h. filled-next (productFrom x y from) (l .j) out now _ (omega arith) refl h in (
+      omega arith,
+      fill v i (l .vi) (now (start .args .vi)) (room .0) (l .inv .1),
+      fill v v (l .vv) (now (start .args .vv)) (room .1 .0) (l .inv .2),
+      fill i i (l .ii) (now (start .args .ii)) (room .1 .1) (l .inv .3),
+    )
 
 -- src/blocks.rt:15:1
 returns : tie.Need-returns Inv-loop μ-loop

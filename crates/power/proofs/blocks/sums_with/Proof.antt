@@ -10,7 +10,8 @@ use Rattle.power.proofs.blocks.sums_with.Statement.{statement}
 use Rattle.power.proofs.blocks.sums_with.Tie as tie
 
 abbrev Inv-loop : tie.InvT-loop
-Inv-loop t count products-vi products-vv products-ii vi₀ vv₀ ii₀ j₀ vi vv ii j = (j ≤ count) × (vi ≡ over (add binary64) (t .vi) products-vi j) × (vv ≡ over (add binary64) (t .vv) products-vv j) × (ii ≡ over (add binary64) (t .ii) products-ii j)
+Inv-loop t count products-vi products-vv products-ii vi₀ vv₀ ii₀ j₀ vi vv ii j =
+    (j ≤ count) × (vi ≡ over (add binary64) (t .vi) products-vi j) × (vv ≡ over (add binary64) (t .vv) products-vv j) × (ii ≡ over (add binary64) (t .ii) products-ii j)
 
 abbrev μ-loop : tie.MeasureT-loop
 μ-loop t count products-vi products-vv products-ii vi₀ vv₀ ii₀ j₀ vi vv ii j = count - j

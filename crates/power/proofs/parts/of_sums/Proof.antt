@@ -29,7 +29,13 @@ factor-requires c κs = search needs
 
 returns : tie.Need-returns
 unfolding recordOf activeOf apparentOf mean64
-returns c = rw (c .factor .ensures, c .before .reactive .ensures, c .before .before .sqrt64-narrowed2 .ensures, c .before .before .before .before .sqrt64-narrowed .ensures, c .before .before .before .before .before .before .narrow .ensures)
+returns c = rw (
+  c .factor .ensures,
+  c .before .reactive .ensures,
+  c .before .before .sqrt64-narrowed2 .ensures,
+  c .before .before .before .before .sqrt64-narrowed .ensures,
+  c .before .before .before .before .before .before .narrow .ensures,
+)
 
 pub of-sums-spec : {M : Type 1} → statement M
 of-sums-spec =

@@ -1,4 +1,5 @@
--- `spectrum::parts::bin_sums` meets its contract. The invariant: the angle is that of place i, and the sums are those of the first i samples. The measure is what is left of the samples. Assumes nothing.
+-- `spectrum::parts::bin_sums` meets its contract. The invariant: the angle is that of place i, and the sums are those of the first i samples. The measure is
+-- what is left of the samples. Assumes nothing.
 use borrow.Author.Needs.{needs}
 use mathlib.Core.Path.{_≡_, refl, sym, ap, _∙_}
 use Prim.Native.Nat.{ℕ, _+_, _-_, _*_, _/_, _%_, _≤_, _<_}

@@ -1,4 +1,5 @@
--- `spectrum::several::fill_by_four` meets its contract. The invariant: the first k places hold their bins, and k is a multiple of four, as half the length is. The measure is what is left of the bins. Assumes nothing.
+-- `spectrum::several::fill_by_four` meets its contract. The invariant: the first k places hold their bins, and k is a multiple of four, as half the length is.
+-- The measure is what is left of the bins. Assumes nothing.
 use mathlib.Core.Path.{_≡_, refl, ap, _∙_}
 use Prim.Native.Nat.{ℕ, _-_, _/_, _%_, _≤_}
 use native.Mathlib.Omega.{arith}
@@ -48,7 +49,8 @@ loop-again c =
       omega (arith, eights),
       omega arith,
       c .before .before .store-four .ensures
-          ∙ four-more xs (now (start .args .output)) (l .output) (l .k) (c .before .before .before .before .four-sums .result) (omega (arith, eights)) (c .before .before .before .before .four-sums .ensures) (l .inv .2),
+          ∙ four-more xs (now (start .args .output)) (l .output) (l .k) (c .before .before .before .before .four-sums .result) (omega (arith, eights))
+          (c .before .before .before .before .four-sums .ensures) (l .inv .2),
     )
 
 same-length : tie.Need-same-length Inv-loop μ-loop

@@ -30,7 +30,12 @@ same-length c = search needs
 
 returns : tie.Need-returns
 unfolding storedFour
-returns c = rw (c .before .before .store4 .ensures, c .before .before .before .before .before .before .store3 .ensures, c .before .before .before .before .before .before .before .before .before .before .store2 .ensures, c .before .before .before .before .before .before .before .before .before .before .before .before .before .before .store .ensures)
+returns c = rw (
+  c .before .before .store4 .ensures,
+  c .before .before .before .before .before .before .store3 .ensures,
+  c .before .before .before .before .before .before .before .before .before .before .store2 .ensures,
+  c .before .before .before .before .before .before .before .before .before .before .before .before .before .before .store .ensures,
+)
 
 pub store-four-spec : {M : Type 1} → statement M
 store-four-spec =

@@ -33,7 +33,8 @@ known dt xs m w from r v l e n =
     record { from = omega (arith, n .reached); inside = n .inside; largest = unchanged dt m w xs from r v l n e; sign = v .sign; number = λ h. above-number w _ (n .found h) }
 
 -- one turn: the step to i, the larger of m and its slew rate, and the next search
-turned : (dt : Float) (xs : List Float) (m w m' : Float) (i r : ℕ) → unsigned dt ≡ true → Known dt xs m i → i < length xs → w ≡ stepAt xs i → m' ≡ higher m (div binary32 w dt) → NextAbove xs w (i + 1) r
+turned : (dt : Float) (xs : List Float) (m w m' : Float) (i r : ℕ) → unsigned dt ≡ true → Known dt xs m i → i < length xs → w ≡ stepAt xs i → m' ≡ higher m (div binary32 w dt)
+    → NextAbove xs w (i + 1) r
     → Known dt xs m' r
 unfolding slewAt
 turned dt xs m w m' i r D k h e q n =
@@ -91,7 +92,8 @@ loop-again : tie.Need-loop-again Inv-loop μ-loop
 loop-again c =
     let a = c .before .before .before .before .before .before .before .before .before .args in
     let l = c .before .before .before .before .before .before .loop in
-    turned (a .dt) (now (a .samples)) (l .m) _ _ (l .i) _ (c .before .before .before .before .before .before .before .before .before .pre) (l .inv) (omega arith) (c .before .before .step .ensures) (c .before .raised .ensures)
+    turned (a .dt) (now (a .samples)) (l .m) _ _ (l .i) _ (c .before .before .before .before .before .before .before .before .before .pre) (l .inv) (omega arith) (c .before .before .step .ensures)
+    (c .before .raised .ensures)
     (c .next-above2 .ensures)
 
 returns : tie.Need-returns Inv-loop μ-loop
