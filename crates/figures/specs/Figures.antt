@@ -10,7 +10,7 @@ use Rattle.answers.specs.declared.Outcome.{Outcome}
 use Rattle.answers.specs.declared.Outcome.the-variants.{Done, TooLong}
 use Rattle.answers.specs.Numbers.{tooLong}
 use Rattle.generator.specs.declared.Wave.{Wave}
-use Rattle.laws.specs.Literals.{one32, count32}
+use Rattle.laws.specs.Literals.{zero32, one32, count32}
 use Rattle.laws.specs.Quotients.{ratioOrZero}
 use Rattle.timing.specs.Timing.{frequencyAbout, slewOf}
 use Rattle.figures.specs.declared.TimeFigures.{TimeFigures}
@@ -92,6 +92,30 @@ figuresOf wave amplitude frequency xs =
       undershoot = undershootOf amplitude xs;
       «slew_rate» = slewRateOf xs;
     }
+
+-- the 19 figures before anything is measured, and after a reset: the Rust's `new` and `reset_waveform` set each to 0.0
+abbrev pub zeroFigures : TimeFigures
+zeroFigures = record {
+  «peak_to_peak» = zero32;
+  max = zero32;
+  min = zero32;
+  «positive_peak» = zero32;
+  «negative_peak» = zero32;
+  average = zero32;
+  «dc_rms» = zero32;
+  «ac_rms» = zero32;
+  «duty_cycle_pos» = zero32;
+  «duty_cycle_neg» = zero32;
+  «rise_time» = zero32;
+  «fall_time» = zero32;
+  «crest_factor» = zero32;
+  frequency = zero32;
+  period = zero32;
+  «form_factor» = zero32;
+  overshoot = zero32;
+  undershoot = zero32;
+  «slew_rate» = zero32;
+}
 
 -- ---- the answer
 

@@ -37,6 +37,29 @@ pub struct TimeFigures {
     pub slew_rate: f32,
 }
 
+// The figures before anything is measured.
+pub const ZERO_FIGURES: TimeFigures = TimeFigures {
+    peak_to_peak: 0.0,
+    max: 0.0,
+    min: 0.0,
+    positive_peak: 0.0,
+    negative_peak: 0.0,
+    average: 0.0,
+    dc_rms: 0.0,
+    ac_rms: 0.0,
+    duty_cycle_pos: 0.0,
+    duty_cycle_neg: 0.0,
+    rise_time: 0.0,
+    fall_time: 0.0,
+    crest_factor: 0.0,
+    frequency: 0.0,
+    period: 0.0,
+    form_factor: 0.0,
+    overshoot: 0.0,
+    undershoot: 0.0,
+    slew_rate: 0.0,
+};
+
 // The figures, and how the call ended.
 pub struct TimeAnswer {
     pub outcome: Outcome,
