@@ -16,3 +16,4 @@ pub mod Harmonics
 pub mod NotNumber
 pub mod NotFinite
 pub mod Quotients
+pub mod ByValue
