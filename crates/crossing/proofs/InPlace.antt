@@ -41,9 +41,11 @@ same-rule h n v = picked (ltb n 16)
 
 -- the harmonics of the port that `tj_set_voltage_harmonic` answers are those that `tj_set_harmonic` leaves, but that every absent reading has the value 0
 pub voltage-same : (p : TjPort) (n : ℕ) (v : TjReading)
-    → portOut (put (portIn p) at-voltage-harmonics (places (withPlace (portIn p .«voltage_harmonics») n (readingIn v)))) .«voltage_harmonics» ≡ map slotOut (map slotIn (withHarmonic (p .«voltage_harmonics») n v))
+    → portOut (put (portIn p) at-voltage-harmonics (places (withPlace (portIn p .«voltage_harmonics») n (readingIn v)))) .«voltage_harmonics»
+    ≡ map slotOut (map slotIn (withHarmonic (p .«voltage_harmonics») n v))
 voltage-same p n v = ap (map slotOut) (sym (same-rule (p .«voltage_harmonics») n v))
 
 pub current-same : (p : TjPort) (n : ℕ) (v : TjReading)
-    → portOut (put (portIn p) at-current-harmonics (places (withPlace (portIn p .«current_harmonics») n (readingIn v)))) .«current_harmonics» ≡ map slotOut (map slotIn (withHarmonic (p .«current_harmonics») n v))
+    → portOut (put (portIn p) at-current-harmonics (places (withPlace (portIn p .«current_harmonics») n (readingIn v)))) .«current_harmonics»
+    ≡ map slotOut (map slotIn (withHarmonic (p .«current_harmonics») n v))
 current-same p n v = ap (map slotOut) (sym (same-rule (p .«current_harmonics») n v))

@@ -13,8 +13,7 @@ unfoldable pub stateIn : TjSignal → State
 stateIn s = record {
   shape = shapeOf (waveOf (s .wave)) (s .amplitude) (s .phase) (s .frequency) (s .«duty_cycle»);
   port = portIn (s .port);
-  figures = s .figures;
-  thd = s .thd;
+  metrics = record { figures = s .figures; thd = s .thd };
 }
 
 unfoldable pub stateOut : State → TjSignal
@@ -25,8 +24,8 @@ stateOut s = record {
   frequency = s .shape .frequency;
   «duty_cycle» = s .shape .«duty_cycle»;
   port = portOut (s .port);
-  figures = s .figures;
-  thd = s .thd;
+  figures = s .metrics .figures;
+  thd = s .metrics .thd;
 }
 
 unfoldable pub codedSignal : Answer → CodedSignal

@@ -6,6 +6,7 @@ use crate::ports::TjPort;
 use figures::TimeFigures;
 use generator::Shape;
 use signal::Answer;
+use signal::Metrics;
 use signal::State;
 
 #[repr(C)]
@@ -42,11 +43,14 @@ pub fn state_in(s: TjSignal) -> State
         duty_cycle: s.duty_cycle,
     };
     let figures = s.figures;
+    let metrics = Metrics {
+        figures: figures,
+        thd: s.thd,
+    };
     State {
         shape: shape,
         port: port,
-        figures: figures,
-        thd: s.thd,
+        metrics: metrics,
     }
 }
 
@@ -59,7 +63,8 @@ pub fn state_out(s: State) -> TjSignal
     let number = generator::wave_number(wave);
     let port = s.port;
     let flat = ports::port_out(port);
-    let figures = s.figures;
+    let metrics = s.metrics;
+    let figures = metrics.figures;
     TjSignal {
         wave: number,
         amplitude: shape.amplitude,
@@ -68,7 +73,7 @@ pub fn state_out(s: State) -> TjSignal
         duty_cycle: shape.duty_cycle,
         port: flat,
         figures: figures,
-        thd: s.thd,
+        thd: metrics.thd,
     }
 }
 

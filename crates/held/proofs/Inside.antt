@@ -19,7 +19,8 @@ use Rattle.signal.specs.declared.Answer.{Answer}
 use Rattle.signal.proofs.Answer as N
 use Rattle.signal.proofs.Answer.Laws as N′
 use Rattle.held.proofs.Signal.Laws as T′
-use Rattle.held.proofs.ByValue.{ByValue, ByValueLaws, rowOf, state, state-laws, port, port-laws}
+use Rattle.laws.proofs.ByValue.{ByValue, ByValueLaws, rowOf}
+use Rattle.held.proofs.ByValue.{state, state-laws, port, port-laws}
 use Rattle.held.proofs.Lent.{av, mach}
 use Rattle.held.proofs.PortIn.{port-is}
 

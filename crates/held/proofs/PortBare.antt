@@ -19,7 +19,8 @@ use prog.Wp.{Heap, Calls, Loops, WpFn, Tables}
 use ghost.Atoms.{Atoms, sem}
 use contract.Monad.{fact}
 use contract.Lifetimes.{AllOutlive}
-use types.Kit.{Given, ‵, raw, given, some, later, _⊛_, ⋆, _$_, _∵_, !, qed, by, move, keep, drop, use1, use2, split, join, pick, learn, rewrite, fsplit, fsplit3, fjoin, fjoin3, feqI, suffices, frame, await, done}
+use types.Kit.{Given, ‵, raw, given, some, later, _⊛_, ⋆, _$_, _∵_, !, qed, by, move, keep, drop, use1, use2, split, join, pick, learn, rewrite, fsplit, fsplit3, fjoin}
+use types.Kit.{fjoin3, feqI, suffices, frame, await, done}
 use types.Run.{look, init, forget, stop, hop, fld, from, load, unit-lit, of-opd, and-then, no-more, assigns, land, returns, enter, alloc1, alloc0, params1, pass1, pass0, free1, free0}
 use types.Part.{whole, sub, look-in, store-in}
 use types.SemTy.{Body}
@@ -78,7 +79,12 @@ inEnded = record {
 
 abbrev outEnded : Ended
 outEnded = record {
-  signature = record { lifetimes = 2; outlives = record { long = 1; long-ok = tt; short = 0; short-ok = tt } ∷ []; params = RefMutOf (0 ∷ []) tt SignalS (λ κs. tt) ∷ []; result = plain (λ κs. Builtin.unit) };
+  signature = record {
+    lifetimes = 2;
+    outlives = record { long = 1; long-ok = tt; short = 0; short-ok = tt } ∷ [];
+    params = RefMutOf (0 ∷ []) tt SignalS (λ κs. tt) ∷ [];
+    result = plain (λ κs. Builtin.unit);
+  };
   kept = (yes, tt);
 }
 
@@ -100,7 +106,8 @@ module _ (gives : Port → Port) where
     told : (p : Port) (r : Port) → ent 𝓤 (ensured 𝓤 H A inEnded inClauses tt (p, tt) tt r) (fact 𝓤 (r ≡ gives p))
     told p r = exE 𝓤 _ (λ ws. snd∗ 𝓤 (sem 𝓤 H A (lasts inEnded tt (p, tt) ws)) (fact 𝓤 (r ≡ gives p)))
 
-  module _ {M : Type 1} (𝓤 : URA M) (H : Heap 𝓤) (A : Atoms 𝓤) (W : Given 𝓤 H A) (κ κ′ : Lft) (bounds : AllOutlive 2 (outEnded .signature .outlives) (κ, (κ′, tt))) (q q′ : Share) (b o : ℕ) (γ : GName) (b′ o′ : ℕ) (γ′ : GName) (ys : List Float) (n : Answer) where
+  module _ {M : Type 1} (𝓤 : URA M) (H : Heap 𝓤) (A : Atoms 𝓤) (W : Given 𝓤 H A) (κ κ′ : Lft) (bounds : AllOutlive 2 (outEnded .signature .outlives) (κ, (κ′, tt))) (q q′ : Share) (b o : ℕ) (γ : GName)
+      (b′ o′ : ℕ) (γ′ : GName) (ys : List Float) (n : Answer) where
     abbrev α : NamedLft
     α = record { mir = named 1; lft = κ′ }
 
@@ -143,7 +150,8 @@ module _ (gives : Port → Port) where
     exits : (r : Port) → r ≡ gives p → ent 𝓤 (⋆ 𝓤 H A (‵ (fobs γ (R .coded .code (h (swapped n r)))) ∷ ‵ (fbor κ (Body (mem R) b o γ)) ∷ ‵ (flft κ q) ∷ (‵ (flft κ′ q′) ⊛ ‵ ftrue) ∷ [])) (Post vunit)
     exits r e =
         qed W (‵ (fobs γ (R .coded .code (h (swapped n r)))) ∷ ‵ (fbor κ (Body (mem R) b o γ)) ∷ ‵ (flft κ q) ∷ (‵ (flft κ′ q′) ⊛ ‵ ftrue) ∷ []) ∵
-        suffices ! _ (ends-at 𝓤 H A outEnded stayed (outClauses 𝓤 H A) W (((κ, (κ′, tt)), (q, (q′, tt)), bounds, a, vals), tt) vunit tt (h (swapped n r), tt) (tt, tt)) $ says ! (ap (withPort (h n)) e) $
+        suffices ! _ (ends-at 𝓤 H A outEnded stayed (outClauses 𝓤 H A) W (((κ, (κ′, tt)), (q, (q′, tt)), bounds, a, vals), tt) vunit tt (h (swapped n r), tt) (tt, tt)) $
+        says ! (ap (withPort (h n)) e) $
         move ! (2 ∷ 3 ∷ []) $ join ! $ frame ! $ feqI ! (List Val) (vptr b o ∷ []) (vptr b o ∷ []) refl $ fjoin3 ! $
         nothing ! $ move ! (1 ∷ 0 ∷ []) $ fjoin ! $ feqI ! (List Val) (vunit ∷ []) (vunit ∷ []) refl $ move ! (1 ∷ 0 ∷ []) $ done !
 
@@ -158,22 +166,29 @@ module _ (gives : Port → Port) where
           use1 W (‵ (fat fullShare (T′.mir erased) b o (mach n))) (W .laws .raw-at fullShare (T′.mir erased) b o (mach n)) $
           move ! (1 ∷ []) $ peeks ! R (Is R) (shows 𝓤 H A R) (h n) (mach n ∷ []) (λ g. move ! (1 ∷ 0 ∷ []) $
           -- [the struct's cell; what the struct owns; the open borrow; obs; auth; the inner token; …; _3; …; _2; …; _1; …; room for _0; …]
-          assigns ! (of-opd ! (load ! (from ! (hop ! (look ! 11 refl) (fld ! refl (fld ! refl (fld ! refl (stop !)))))) (look-in ! 0 (sub ! 1 refl (sub ! 1 refl (sub ! 1 refl (whole !))))))) (from ! (stop !)) (init ! 9 refl (LL.lawful P.the-type P′.the-laws 𝓤 H A W .typed p _ (port-is n (Lent.answer-is α (h n) (mach n) g)) .0)) $
+          assigns ! (of-opd ! (load ! (from ! (hop ! (look ! 11 refl) (fld ! refl (fld ! refl (fld ! refl (stop !)))))) (look-in ! 0 (sub ! 1 refl (sub ! 1 refl (sub ! 1 refl (whole !)))))))
+          (from ! (stop !)) (init ! 9 refl (LL.lawful P.the-type P′.the-laws 𝓤 H A W .typed p _ (port-is n (Lent.answer-is α (h n) (mach n) g)) .0)) $
           -- what the struct owns is taken apart, and the borrow of the samples is kept
-          move ! (1 ∷ []) $ use1 W (given (mach n ∷ [] ≡ mach n ∷ []) (‵ (all-own (T.the-type α .parts) (T′.the-laws α) (x, (n, tt))))) (own-open 𝓤 H A W (T.the-type α) (T′.the-laws α) (x, (n, tt)) (mach n)) $ learn ! (λ _. fsplit ! $ move ! (1 ∷ []) $ drop ! $
+          move ! (1 ∷ []) $ use1 W (given (mach n ∷ [] ≡ mach n ∷ []) (‵ (all-own (T.the-type α .parts) (T′.the-laws α) (x, (n, tt)))))
+          (own-open 𝓤 H A W (T.the-type α) (T′.the-laws α) (x, (n, tt)) (mach n)) $ learn ! (λ _. fsplit ! $ move ! (1 ∷ []) $ drop ! $
           nothing ! $ owned ! P.the-row (Is P.the-row) (LL.makes P.the-type P′.the-plain 𝓤 H A) p _ (port-is n (Lent.answer-is α (h n) (mach n) g)) $ fjoin ! $ nothing ! $
           use2 W (raw (Callee 𝓤 H A .pre to-callee)) goes $
           calls-at ! fm (Callee 𝓤 H A) known to-callee (and-then ! (load ! (from ! (stop !)) (look ! 10 refl)) (no-more !)) (λ w.
           use1 W (later (some (λ (r : Port). (‵ ftrue ⊛ ‵ (P.the-row .own r (w ∷ []))) ⊛ raw (ensured 𝓤 H A inEnded (inClauses 𝓤 H A) tt (p, tt) tt r)))) (id⊢ 𝓤 _) $ await ! tt $ pick ! (λ r.
           split ! $ move ! (1 ∷ []) $ use1 W (raw (fact 𝓤 (r ≡ gives p))) (told 𝓤 H A p r) $ heard ! (r ≡ gives p) (λ e. split ! $ drop ! $
           peeks ! P.the-row (Is P.the-row) (shows 𝓤 H A P.the-row) r (w ∷ []) (λ is.
-          land ! (from ! (stop !)) (init ! 8 refl (LL.lawful P.the-type P′.the-laws 𝓤 H A W .typed r _ is .0)) $ rewrite ! 8 (λ (u : Val). ‵ (fat fullShare P′.mir l₃ 0 u)) (ap only (LL.tells P.the-type P′.the-laws r _ is)) refl $ drop ! $
+          land ! (from ! (stop !)) (init ! 8 refl (LL.lawful P.the-type P′.the-laws 𝓤 H A W .typed r _ is .0)) $
+          rewrite ! 8 (λ (u : Val). ‵ (fat fullShare P′.mir l₃ 0 u)) (ap only (LL.tells P.the-type P′.the-laws r _ is)) refl $ drop ! $
           -- [what the samples' borrow owns; the struct's cell; the open borrow; obs; auth; the inner token; …; _3; …; _2; …; _1; …; room for _0; …]
-          assigns ! (of-opd ! (load ! (from ! (stop !)) (look ! 7 refl))) (from ! (hop ! (look ! 11 refl) (fld ! refl (fld ! refl (fld ! refl (stop !)))))) (store-in ! 1 (sub ! 1 refl (sub ! 1 refl (sub ! 1 refl (whole !)))) (LL.lawful P.the-type P′.the-laws 𝓤 H A W .typed r _ (subst (Is P.the-row r) (LL.tells P.the-type P′.the-laws r _ is) is) .0)) $
+          assigns ! (of-opd ! (load ! (from ! (stop !)) (look ! 7 refl))) (from ! (hop ! (look ! 11 refl) (fld ! refl (fld ! refl (fld ! refl (stop !))))))
+          (store-in ! 1 (sub ! 1 refl (sub ! 1 refl (sub ! 1 refl (whole !))))
+          (LL.lawful P.the-type P′.the-laws 𝓤 H A W .typed r _ (subst (Is P.the-row r) (LL.tells P.the-type P′.the-laws r _ is) is) .0)) $
           assigns ! (of-opd ! (unit-lit !)) (from ! (stop !)) (init ! 13 refl (tt, tt)) $
           -- the struct is put together again, with the new port, and the outer borrow is closed
-          nothing ! $ owned ! N.the-row (Is N.the-row) (LL.makes N.the-type N′.the-plain 𝓤 H A) (swapped n r) _ (swapped-is n r (Lent.answer-is α (h n) (mach n) g) (subst (Is P.the-row r) (LL.tells P.the-type P′.the-laws r _ is) is)) $ fjoin ! $ move ! (1 ∷ 0 ∷ []) $ fjoin ! $
-          use1 W (‵ (R .own (h (swapped n r)) (mach (swapped n r) ∷ []))) (makes 𝓤 H A W (MutSlice (named 1) κ′ f32 ∷ N.the-field .row ∷ []) (had α x (swapped n r)) (sliceVal (b′, o′) (length ys) ∷ [], (av (swapped n r) ∷ [], tt))) $
+          nothing ! $ owned ! N.the-row (Is N.the-row) (LL.makes N.the-type N′.the-plain 𝓤 H A) (swapped n r) _
+          (swapped-is n r (Lent.answer-is α (h n) (mach n) g) (subst (Is P.the-row r) (LL.tells P.the-type P′.the-laws r _ is) is)) $ fjoin ! $ move ! (1 ∷ 0 ∷ []) $ fjoin ! $
+          use1 W (‵ (R .own (h (swapped n r)) (mach (swapped n r) ∷ [])))
+          (makes 𝓤 H A W (MutSlice (named 1) κ′ f32 ∷ N.the-field .row ∷ []) (had α x (swapped n r)) (sliceVal (b′, o′) (length ys) ∷ [], (av (swapped n r) ∷ [], tt))) $
           move ! (1 ∷ []) $ use1 W (‵ (cellAt fullShare (R .mir) (mach (swapped n r) ∷ []) b o)) (W .laws .at-raw fullShare (T′.mir erased) b o (mach (swapped n r))) $
           closes ! tt R (h (swapped n r)) (mach (swapped n r) ∷ []) b o $
           returns ! (look ! 11 refl) $ forget ! 5 refl $ forget ! 7 refl $ forget ! 9 refl $ forget ! 11 refl $
@@ -185,7 +200,8 @@ module _ (gives : Port → Port) where
     bare-walks f C Λ fm known = walked 𝓤 H A outEnded stayed (outClauses 𝓤 H A) (WpFn 𝓤 H C Λ (bareFn f))
         (λ κs. (ptr-vals, tt)) (λ κs. (mut-tells (named 0) (κs .0) (T.the-row (namedLft 2 1 tt κs)), tt))
         (λ κs qs bounds a g are. via 𝓤 _ (fst∗ 𝓤 _ (emp 𝓤))
-        (walk 𝓤 H A W (κs .0) (κs .1 .0) bounds (qs .0) (qs .1 .0) (a .0 .ptr .0) (a .0 .ptr .1) (a .0 .name) (a .0 .now .samples .ptr .0) (a .0 .now .samples .ptr .1) (a .0 .now .samples .name) (a .0 .now .samples .now) (a .0 .now .answer) f C Λ fm known))
+        (walk 𝓤 H A W (κs .0) (κs .1 .0) bounds (qs .0) (qs .1 .0) (a .0 .ptr .0) (a .0 .ptr .1) (a .0 .name) (a .0 .now .samples .ptr .0) (a .0 .now .samples .ptr .1) (a .0 .now .samples .name)
+        (a .0 .now .samples .now) (a .0 .now .answer) f C Λ fm known))
 
   pub bare-meets : {M : Type 1} (𝓤 : URA M) (H : Heap 𝓤) (A : Atoms 𝓤) → Given 𝓤 H A → (f : Name) (𝓣 : Tables 𝓤 H) → Triple 𝓤 (𝓣 .C f) (Callee 𝓤 H A)
       → Meets 𝓤 H A (outEnded .signature) (WpFn 𝓤 H (𝓣 .C) (𝓣 .Λ) (bareFn f)) (closing 𝓤 H A outEnded (outClauses 𝓤 H A))

@@ -19,7 +19,8 @@ use prog.Wp.{Heap, Calls, Loops, WpFn, Tables}
 use ghost.Atoms.{Atoms, sem}
 use contract.Monad.{fact}
 use contract.Lifetimes.{AllOutlive}
-use types.Kit.{Given, ‵, raw, given, some, later, _⊛_, ⋆, _$_, _∵_, !, qed, by, move, keep, drop, use1, use2, split, join, pick, learn, rewrite, fsplit, fsplit3, fjoin, fjoin3, feqI, suffices, frame, await, done}
+use types.Kit.{Given, ‵, raw, given, some, later, _⊛_, ⋆, _$_, _∵_, !, qed, by, move, keep, drop, use1, use2, split, join, pick, learn, rewrite, fsplit, fsplit3, fjoin}
+use types.Kit.{fjoin3, feqI, suffices, frame, await, done}
 use types.Run.{look, init, forget, stop, hop, fld, from, load, unit-lit, of-opd, and-then, no-more, assigns, land, returns, enter, alloc1, alloc0, params1, pass1, pass0, free1, free0}
 use types.Part.{whole, sub, look-in, store-in}
 use types.SemTy.{Body}
@@ -40,7 +41,7 @@ use denote.Triple.Spec.{Meets, tripleOf}
 use denote.Triple.Statement.{Contract, Triple}
 use denote.Triple.Call.{calls-at}
 use denote.Triple.Clauses.{Ended, Clauses, closing, ensured, lasts}
-use denote.Triple.Walked.{says, Stays, stay-ref, stay-none, walkOf, goes-ref, goes-none, Walks, ends-at, walked, walk-meets}
+use denote.Triple.Walked.{says, Stays, stay-ref, stay-none, walkOf, goes-ref, Walks, ends-at, walked, walk-meets}
 use denote.Exit.{yes}
 use denote.Signature.{plain, namedLft}
 use denote.Signature.Struct.{makes}
@@ -54,7 +55,7 @@ use Rattle.held.specs.declared.Signal.{Signal}
 use Rattle.held.specs.Held.{swapped, withPort}
 use Rattle.held.proofs.Signal as T
 use Rattle.held.proofs.Signal.Laws as T′
-use Rattle.held.proofs.ByValue.{ByValue, ByValueLaws, rowOf}
+use Rattle.laws.proofs.ByValue.{ByValue, ByValueLaws, rowOf, goes-by-value, valsOf}
 use Rattle.held.proofs.Lent as Lent
 use Rattle.held.proofs.Lent.{lent, SignalS, av, had}
 use Rattle.held.proofs.PortIn.{pv, port-is, swapped-is}
@@ -80,7 +81,12 @@ module _ (B₁ : ByValue) (L₁ : ByValueLaws B₁) (B₂ : ByValue) (L₂ : ByV
 
   abbrev outEnded : Ended
   outEnded = record {
-    signature = record { lifetimes = 2; outlives = record { long = 1; long-ok = tt; short = 0; short-ok = tt } ∷ []; params = RefMutOf (0 ∷ []) tt SignalS (λ κs. tt) ∷ plain (λ κs. rowOf B₁) ∷ plain (λ κs. rowOf B₂) ∷ []; result = plain (λ κs. Builtin.unit) };
+    signature = record {
+      lifetimes = 2;
+      outlives = record { long = 1; long-ok = tt; short = 0; short-ok = tt } ∷ [];
+      params = RefMutOf (0 ∷ []) tt SignalS (λ κs. tt) ∷ plain (λ κs. rowOf B₁) ∷ plain (λ κs. rowOf B₂) ∷ [];
+      result = plain (λ κs. Builtin.unit);
+    };
     kept = (yes, (yes, (yes, tt)));
   }
 
@@ -93,7 +99,11 @@ module _ (B₁ : ByValue) (L₁ : ByValueLaws B₁) (B₂ : ByValue) (L₂ : ByV
       inClauses κs a = record { ghost = Unit {0}; requires = λ g. emp 𝓤; ensures = λ g r end. fact 𝓤 (r ≡ gives (a .0) (a .1 .0) (a .1 .1 .0)) }
 
       abbrev outClauses : Clauses 𝓤 outEnded
-      outClauses κs a = record { ghost = Unit {0}; requires = λ g. emp 𝓤; ensures = λ g r end. fact 𝓤 (now (end .0) ≡ withPort (now (a .0)) (gives (now (a .0) .answer .state .port) (a .1 .0) (a .1 .1 .0))) }
+      outClauses κs a = record {
+        ghost = Unit {0};
+        requires = λ g. emp 𝓤;
+        ensures = λ g r end. fact 𝓤 (now (end .0) ≡ withPort (now (a .0)) (gives (now (a .0) .answer .state .port) (a .1 .0) (a .1 .1 .0)));
+      }
 
       abbrev pub Callee : Contract 𝓤
       Callee = tripleOf 𝓤 H A (inEnded .signature) (closing 𝓤 H A inEnded inClauses)
@@ -102,7 +112,9 @@ module _ (B₁ : ByValue) (L₁ : ByValueLaws B₁) (B₂ : ByValue) (L₂ : ByV
       told : (p : Port) (v₁ : B₁ .like .Denot) (v₂ : B₂ .like .Denot) (r : Port) → ent 𝓤 (ensured 𝓤 H A inEnded inClauses tt (p, (v₁, (v₂, tt))) tt r) (fact 𝓤 (r ≡ gives p v₁ v₂))
       told p v₁ v₂ r = exE 𝓤 _ (λ ws. snd∗ 𝓤 (sem 𝓤 H A (lasts inEnded tt (p, (v₁, (v₂, tt))) ws)) (fact 𝓤 (r ≡ gives p v₁ v₂)))
 
-    module _ {M : Type 1} (𝓤 : URA M) (H : Heap 𝓤) (A : Atoms 𝓤) (W : Given 𝓤 H A) (κ κ′ : Lft) (bounds : AllOutlive 2 (outEnded .signature .outlives) (κ, (κ′, tt))) (q q′ : Share) (b o : ℕ) (γ : GName) (b′ o′ : ℕ) (γ′ : GName) (ys : List Float) (n : Answer) (v₁ : B₁ .like .Denot) (v₂ : B₂ .like .Denot) (v₁-is : Is (rowOf B₁) v₁ (L₁ .val v₁ ∷ [])) (v₂-is : Is (rowOf B₂) v₂ (L₂ .val v₂ ∷ [])) where
+    module _ {M : Type 1} (𝓤 : URA M) (H : Heap 𝓤) (A : Atoms 𝓤) (W : Given 𝓤 H A) (κ κ′ : Lft) (bounds : AllOutlive 2 (outEnded .signature .outlives) (κ, (κ′, tt))) (q q′ : Share) (b o : ℕ)
+        (γ : GName) (b′ o′ : ℕ) (γ′ : GName) (ys : List Float) (n : Answer) (v₁ : B₁ .like .Denot) (v₂ : B₂ .like .Denot) (v₁-is : Is (rowOf B₁) v₁ (L₁ .val v₁ ∷ []))
+        (v₂-is : Is (rowOf B₂) v₂ (L₂ .val v₂ ∷ [])) where
       abbrev α : NamedLft
       α = record { mir = named 1; lft = κ′ }
 
@@ -142,55 +154,75 @@ module _ (B₁ : ByValue) (L₁ : ByValueLaws B₁) (B₂ : ByValue) (L₂ : ByV
       goes : ent 𝓤 (sep 𝓤 (sem 𝓤 H A ftrue) (sem 𝓤 H A (owns (P.the-row ∷ rowOf B₁ ∷ rowOf B₂ ∷ []) (p, (v₁, (v₂, tt))) passed))) (Callee 𝓤 H A .pre to-callee)
       goes = qed W (‵ ftrue ∷ ‵ (owns (P.the-row ∷ rowOf B₁ ∷ rowOf B₂ ∷ []) (p, (v₁, (v₂, tt))) passed) ∷ []) ∵ join ! $ frame ! $ done !
 
-      exits : (r : Port) → r ≡ gives p v₁ v₂ → ent 𝓤 (⋆ 𝓤 H A (‵ (fobs γ (R .coded .code (h (swapped n r)))) ∷ ‵ (fbor κ (Body (mem R) b o γ)) ∷ ‵ (flft κ q) ∷ (‵ (flft κ′ q′) ⊛ ‵ ftrue) ∷ [])) (Post vunit)
+      exits : (r : Port) → r ≡ gives p v₁ v₂ → ent 𝓤 (⋆ 𝓤 H A (‵ (fobs γ (R .coded .code (h (swapped n r)))) ∷ ‵ (fbor κ (Body (mem R) b o γ)) ∷ ‵ (flft κ q) ∷ (‵ (flft κ′ q′) ⊛ ‵ ftrue) ∷ []))
+          (Post vunit)
       exits r e =
           qed W (‵ (fobs γ (R .coded .code (h (swapped n r)))) ∷ ‵ (fbor κ (Body (mem R) b o γ)) ∷ ‵ (flft κ q) ∷ (‵ (flft κ′ q′) ⊛ ‵ ftrue) ∷ []) ∵
-          suffices ! _ (ends-at 𝓤 H A outEnded stayed (outClauses 𝓤 H A) W (((κ, (κ′, tt)), (q, (q′, tt)), bounds, a, vals), tt) vunit tt (h (swapped n r), (tt, (tt, tt))) (tt, (tt, (tt, tt)))) $ says ! (ap (withPort (h n)) e) $
+          suffices ! _ (ends-at 𝓤 H A outEnded stayed (outClauses 𝓤 H A) W (((κ, (κ′, tt)), (q, (q′, tt)), bounds, a, vals), tt) vunit tt (h (swapped n r), (tt, (tt, tt))) (tt, (tt, (tt, tt)))) $
+          says ! (ap (withPort (h n)) e) $
           move ! (2 ∷ 3 ∷ []) $ join ! $ frame ! $ feqI ! (List Val) (vptr b o ∷ []) (vptr b o ∷ []) refl $ fjoin3 ! $
-          nothing ! $ owned ! (rowOf B₂) (Is (rowOf B₂)) (L₂ .makes 𝓤 H A W) v₂ _ v₂-is $ fjoin ! $ owned ! (rowOf B₁) (Is (rowOf B₁)) (L₁ .makes 𝓤 H A W) v₁ _ v₁-is $ fjoin ! $ move ! (1 ∷ 0 ∷ []) $ fjoin ! $ feqI ! (List Val) (vunit ∷ []) (vunit ∷ []) refl $ move ! (1 ∷ 0 ∷ []) $ done !
+          nothing ! $ owned ! (rowOf B₂) (Is (rowOf B₂)) (L₂ .makes 𝓤 H A W) v₂ _ v₂-is $ fjoin ! $ owned ! (rowOf B₁) (Is (rowOf B₁)) (L₁ .makes 𝓤 H A W) v₁ _ v₁-is $ fjoin ! $ move ! (1 ∷ 0 ∷ []) $
+          fjoin ! $ feqI ! (List Val) (vunit ∷ []) (vunit ∷ []) refl $ move ! (1 ∷ 0 ∷ []) $ done !
 
       module _ (f : Name) (C : Calls 𝓤 H) (Λ : Loops 𝓤 H) (fm : FmC 𝓤 H (W .laws) C) (known : Triple 𝓤 (C f) (Callee 𝓤 H A)) where
         walk : ent 𝓤 (onEntry 𝓤 H A (outEnded .signature) (κ, (κ′, tt)) (q, (q′, tt)) a vals) (WpFn 𝓤 H C Λ (twoFn (B₁ .τ) (B₂ .τ) f) (vptr b o ∷ L₁ .val v₁ ∷ L₂ .val v₂ ∷ []) Post)
         walk =
-            qed W ((‵ (flft κ q) ⊛ ‵ (flft κ′ q′) ⊛ ‵ ftrue) ∷ ‵ (owns (MutRef (named 0) κ R ∷ rowOf B₁ ∷ rowOf B₂ ∷ []) a vals) ∷ []) ∵ enter ! C Λ (twoFn (B₁ .τ) (B₂ .τ) f) (vptr b o ∷ L₁ .val v₁ ∷ L₂ .val v₂ ∷ []) _ $
-            alloc1 ! (λ l₀. alloc1 ! (λ l₁. alloc1 ! (λ l₂. alloc1 ! (λ l₃. alloc1 ! (λ l₄. alloc1 ! (λ l₅. alloc0 ! $ params1 ! $ pass1 ! (init ! 8 refl (tt, tt)) $ pass1 ! (init ! 6 refl (L₁ .lawful 𝓤 H A W .typed v₁ _ v₁-is .0)) $ pass1 ! (init ! 4 refl (L₂ .lawful 𝓤 H A W .typed v₂ _ v₂-is .0)) $ pass0 ! $
+            qed W ((‵ (flft κ q) ⊛ ‵ (flft κ′ q′) ⊛ ‵ ftrue) ∷ ‵ (owns (MutRef (named 0) κ R ∷ rowOf B₁ ∷ rowOf B₂ ∷ []) a vals) ∷ []) ∵
+            enter ! C Λ (twoFn (B₁ .τ) (B₂ .τ) f) (vptr b o ∷ L₁ .val v₁ ∷ L₂ .val v₂ ∷ []) _ $
+            alloc1 ! (λ l₀. alloc1 ! (λ l₁. alloc1 ! (λ l₂. alloc1 ! (λ l₃. alloc1 ! (λ l₄. alloc1 ! (λ l₅. alloc0 ! $ params1 ! $ pass1 ! (init ! 8 refl (tt, tt)) $
+            pass1 ! (init ! 6 refl (L₁ .lawful 𝓤 H A W .typed v₁ _ v₁-is .0)) $ pass1 ! (init ! 4 refl (L₂ .lawful 𝓤 H A W .typed v₂ _ v₂-is .0)) $ pass0 ! $
             -- the outer borrow is opened
             move ! (13 ∷ []) $ fsplit ! $ fsplit3 ! $ drop ! $ move ! (15 ∷ []) $ split ! $ move ! (2 ∷ 3 ∷ 0 ∷ []) $
             opens ! tt R {h = h n} b o (λ vs. spelt ! R (Is R) (shows 𝓤 H A R) (LL.vals (T.the-type α) (T′.the-laws α)) (LL.tells (T.the-type α) (T′.the-laws α)) fullShare (h n) vs b o $
             use1 W (‵ (fat fullShare (T′.mir erased) b o (mach n))) (W .laws .raw-at fullShare (T′.mir erased) b o (mach n)) $
             move ! (1 ∷ []) $ peeks ! R (Is R) (shows 𝓤 H A R) (h n) (mach n ∷ []) (λ g. move ! (1 ∷ 0 ∷ []) $
             -- [the struct's cell; what the struct owns; the open borrow; obs; auth; the inner token; the arguments'; _5; …; _4; …; _3; …; _2; …; _1; …; room for _0; …]
-            assigns ! (of-opd ! (load ! (from ! (hop ! (look ! 15 refl) (fld ! refl (fld ! refl (fld ! refl (stop !)))))) (look-in ! 0 (sub ! 1 refl (sub ! 1 refl (sub ! 1 refl (whole !))))))) (from ! (stop !)) (init ! 9 refl (LL.lawful P.the-type P′.the-laws 𝓤 H A W .typed p _ (port-is n (Lent.answer-is α (h n) (mach n) g)) .0)) $
+            assigns ! (of-opd ! (load ! (from ! (hop ! (look ! 15 refl) (fld ! refl (fld ! refl (fld ! refl (stop !)))))) (look-in ! 0 (sub ! 1 refl (sub ! 1 refl (sub ! 1 refl (whole !)))))))
+            (from ! (stop !)) (init ! 9 refl (LL.lawful P.the-type P′.the-laws 𝓤 H A W .typed p _ (port-is n (Lent.answer-is α (h n) (mach n) g)) .0)) $
             -- what the struct owns is taken apart, and the borrow of the samples is kept
-            move ! (1 ∷ []) $ use1 W (given (mach n ∷ [] ≡ mach n ∷ []) (‵ (all-own (T.the-type α .parts) (T′.the-laws α) (x, (n, tt))))) (own-open 𝓤 H A W (T.the-type α) (T′.the-laws α) (x, (n, tt)) (mach n)) $ learn ! (λ _. fsplit ! $ move ! (1 ∷ []) $ drop ! $
-            nothing ! $ owned ! (rowOf B₂) (Is (rowOf B₂)) (L₂ .makes 𝓤 H A W) v₂ _ v₂-is $ fjoin ! $ owned ! (rowOf B₁) (Is (rowOf B₁)) (L₁ .makes 𝓤 H A W) v₁ _ v₁-is $ fjoin ! $ owned ! P.the-row (Is P.the-row) (LL.makes P.the-type P′.the-plain 𝓤 H A) p _ (port-is n (Lent.answer-is α (h n) (mach n) g)) $ fjoin ! $ nothing ! $
+            move ! (1 ∷ []) $ use1 W (given (mach n ∷ [] ≡ mach n ∷ []) (‵ (all-own (T.the-type α .parts) (T′.the-laws α) (x, (n, tt)))))
+            (own-open 𝓤 H A W (T.the-type α) (T′.the-laws α) (x, (n, tt)) (mach n)) $ learn ! (λ _. fsplit ! $ move ! (1 ∷ []) $ drop ! $
+            nothing ! $ owned ! (rowOf B₂) (Is (rowOf B₂)) (L₂ .makes 𝓤 H A W) v₂ _ v₂-is $ fjoin ! $ owned ! (rowOf B₁) (Is (rowOf B₁)) (L₁ .makes 𝓤 H A W) v₁ _ v₁-is $ fjoin ! $
+            owned ! P.the-row (Is P.the-row) (LL.makes P.the-type P′.the-plain 𝓤 H A) p _ (port-is n (Lent.answer-is α (h n) (mach n) g)) $ fjoin ! $ nothing ! $
             use2 W (raw (Callee 𝓤 H A .pre to-callee)) goes $
-            calls-at ! fm (Callee 𝓤 H A) known to-callee (and-then ! (load ! (from ! (stop !)) (look ! 10 refl)) (and-then ! (load ! (from ! (stop !)) (look ! 14 refl)) (and-then ! (load ! (from ! (stop !)) (look ! 12 refl)) (no-more !)))) (λ w.
-            use1 W (later (some (λ (r : Port). (‵ ftrue ⊛ ‵ (P.the-row .own r (w ∷ []))) ⊛ raw (ensured 𝓤 H A inEnded (inClauses 𝓤 H A) tt (p, (v₁, (v₂, tt))) tt r)))) (id⊢ 𝓤 _) $ await ! tt $ pick ! (λ r.
+            calls-at ! fm (Callee 𝓤 H A) known to-callee (and-then ! (load ! (from ! (stop !)) (look ! 10 refl))
+            (and-then ! (load ! (from ! (stop !)) (look ! 14 refl)) (and-then ! (load ! (from ! (stop !)) (look ! 12 refl)) (no-more !)))) (λ w.
+            use1 W (later (some (λ (r : Port). (‵ ftrue ⊛ ‵ (P.the-row .own r (w ∷ []))) ⊛ raw (ensured 𝓤 H A inEnded (inClauses 𝓤 H A) tt (p, (v₁, (v₂, tt))) tt r)))) (id⊢ 𝓤 _) $ await ! tt $
+            pick ! (λ r.
             split ! $ move ! (1 ∷ []) $ use1 W (raw (fact 𝓤 (r ≡ gives p v₁ v₂))) (told 𝓤 H A p v₁ v₂ r) $ heard ! (r ≡ gives p v₁ v₂) (λ e. split ! $ drop ! $
             peeks ! P.the-row (Is P.the-row) (shows 𝓤 H A P.the-row) r (w ∷ []) (λ is.
-            land ! (from ! (stop !)) (init ! 8 refl (LL.lawful P.the-type P′.the-laws 𝓤 H A W .typed r _ is .0)) $ rewrite ! 8 (λ (u : Val). ‵ (fat fullShare P′.mir l₅ 0 u)) (ap only (LL.tells P.the-type P′.the-laws r _ is)) refl $ drop ! $
+            land ! (from ! (stop !)) (init ! 8 refl (LL.lawful P.the-type P′.the-laws 𝓤 H A W .typed r _ is .0)) $
+            rewrite ! 8 (λ (u : Val). ‵ (fat fullShare P′.mir l₅ 0 u)) (ap only (LL.tells P.the-type P′.the-laws r _ is)) refl $ drop ! $
             -- [what the samples' borrow owns; the struct's cell; the open borrow; obs; auth; the inner token; the arguments'; _5; …; _4; …; _3; …; _2; …; _1; …; room for _0; …]
-            assigns ! (of-opd ! (load ! (from ! (stop !)) (look ! 7 refl))) (from ! (hop ! (look ! 15 refl) (fld ! refl (fld ! refl (fld ! refl (stop !)))))) (store-in ! 1 (sub ! 1 refl (sub ! 1 refl (sub ! 1 refl (whole !)))) (LL.lawful P.the-type P′.the-laws 𝓤 H A W .typed r _ (subst (Is P.the-row r) (LL.tells P.the-type P′.the-laws r _ is) is) .0)) $
+            assigns ! (of-opd ! (load ! (from ! (stop !)) (look ! 7 refl))) (from ! (hop ! (look ! 15 refl) (fld ! refl (fld ! refl (fld ! refl (stop !))))))
+            (store-in ! 1 (sub ! 1 refl (sub ! 1 refl (sub ! 1 refl (whole !))))
+            (LL.lawful P.the-type P′.the-laws 𝓤 H A W .typed r _ (subst (Is P.the-row r) (LL.tells P.the-type P′.the-laws r _ is) is) .0)) $
             assigns ! (of-opd ! (unit-lit !)) (from ! (stop !)) (init ! 17 refl (tt, tt)) $
             -- the struct is put together again, with the new port, and the outer borrow is closed
-            nothing ! $ owned ! N.the-row (Is N.the-row) (LL.makes N.the-type N′.the-plain 𝓤 H A) (swapped n r) _ (swapped-is n r (Lent.answer-is α (h n) (mach n) g) (subst (Is P.the-row r) (LL.tells P.the-type P′.the-laws r _ is) is)) $ fjoin ! $ move ! (1 ∷ 0 ∷ []) $ fjoin ! $
-            use1 W (‵ (R .own (h (swapped n r)) (mach (swapped n r) ∷ []))) (makes 𝓤 H A W (MutSlice (named 1) κ′ f32 ∷ N.the-field .row ∷ []) (had α x (swapped n r)) (sliceVal (b′, o′) (length ys) ∷ [], (av (swapped n r) ∷ [], tt))) $
+            nothing ! $ owned ! N.the-row (Is N.the-row) (LL.makes N.the-type N′.the-plain 𝓤 H A) (swapped n r) _
+            (swapped-is n r (Lent.answer-is α (h n) (mach n) g) (subst (Is P.the-row r) (LL.tells P.the-type P′.the-laws r _ is) is)) $ fjoin ! $ move ! (1 ∷ 0 ∷ []) $ fjoin ! $
+            use1 W (‵ (R .own (h (swapped n r)) (mach (swapped n r) ∷ [])))
+            (makes 𝓤 H A W (MutSlice (named 1) κ′ f32 ∷ N.the-field .row ∷ []) (had α x (swapped n r)) (sliceVal (b′, o′) (length ys) ∷ [], (av (swapped n r) ∷ [], tt))) $
             move ! (1 ∷ []) $ use1 W (‵ (cellAt fullShare (R .mir) (mach (swapped n r) ∷ []) b o)) (W .laws .at-raw fullShare (T′.mir erased) b o (mach (swapped n r))) $
             closes ! tt R (h (swapped n r)) (mach (swapped n r) ∷ []) b o $
             returns ! (look ! 15 refl) $ forget ! 5 refl $ forget ! 7 refl $ forget ! 9 refl $ forget ! 11 refl $ forget ! 13 refl $ forget ! 15 refl $
-            move ! (15 ∷ 16 ∷ []) $ free1 ! $ move ! (13 ∷ 14 ∷ []) $ free1 ! $ move ! (11 ∷ 12 ∷ []) $ free1 ! $ move ! (9 ∷ 10 ∷ []) $ free1 ! $ move ! (7 ∷ 8 ∷ []) $ free1 ! $ move ! (5 ∷ 6 ∷ []) $ free1 ! $ free0 ! $
+            move ! (15 ∷ 16 ∷ []) $ free1 ! $ move ! (13 ∷ 14 ∷ []) $ free1 ! $ move ! (11 ∷ 12 ∷ []) $ free1 ! $ move ! (9 ∷ 10 ∷ []) $ free1 ! $ move ! (7 ∷ 8 ∷ []) $ free1 ! $ move ! (5 ∷ 6 ∷ []) $
+            free1 ! $ free0 ! $
             keep ! (0 ∷ 1 ∷ 2 ∷ 3 ∷ []) $ by ! (exits r e))))))))))))))
 
     module _ {M : Type 1} (𝓤 : URA M) (H : Heap 𝓤) (A : Atoms 𝓤) (W : Given 𝓤 H A) where
-      two-walks : (f : Name) (C : Calls 𝓤 H) (Λ : Loops 𝓤 H) → FmC 𝓤 H (W .laws) C → Triple 𝓤 (C f) (Callee 𝓤 H A) → Walks 𝓤 H A outEnded stayed (WpFn 𝓤 H C Λ (twoFn (B₁ .τ) (B₂ .τ) f)) (outClauses 𝓤 H A)
+      two-walks : (f : Name) (C : Calls 𝓤 H) (Λ : Loops 𝓤 H) → FmC 𝓤 H (W .laws) C → Triple 𝓤 (C f) (Callee 𝓤 H A)
+          → Walks 𝓤 H A outEnded stayed (WpFn 𝓤 H C Λ (twoFn (B₁ .τ) (B₂ .τ) f)) (outClauses 𝓤 H A)
       two-walks f C Λ fm known = walked 𝓤 H A outEnded stayed (outClauses 𝓤 H A) (WpFn 𝓤 H C Λ (twoFn (B₁ .τ) (B₂ .τ) f))
-          (λ κs. (ptr-vals, ((λ (y : B₁ .like .Denot). L₁ .val y ∷ []), ((λ (y : B₂ .like .Denot). L₂ .val y ∷ []), tt)))) (λ κs. (mut-tells (named 0) (κs .0) (T.the-row (namedLft 2 1 tt κs)), (L₁ .tells, (L₂ .tells, tt))))
+          (λ κs. (ptr-vals, (valsOf L₁, (valsOf L₂, tt))))
+          (λ κs. (mut-tells (named 0) (κs .0) (T.the-row (namedLft 2 1 tt κs)), (L₁ .tells, (L₂ .tells, tt))))
           (λ κs qs bounds a g are. via 𝓤 _ (fst∗ 𝓤 _ (emp 𝓤))
-          (walk 𝓤 H A W (κs .0) (κs .1 .0) bounds (qs .0) (qs .1 .0) (a .0 .ptr .0) (a .0 .ptr .1) (a .0 .name) (a .0 .now .samples .ptr .0) (a .0 .now .samples .ptr .1) (a .0 .now .samples .name) (a .0 .now .samples .now) (a .0 .now .answer) (a .1 .0) (a .1 .1 .0) (are .1 .0) (are .1 .1 .0) f C Λ fm known))
+          (walk 𝓤 H A W (κs .0) (κs .1 .0) bounds (qs .0) (qs .1 .0) (a .0 .ptr .0) (a .0 .ptr .1) (a .0 .name) (a .0 .now .samples .ptr .0) (a .0 .now .samples .ptr .1) (a .0 .now .samples .name)
+          (a .0 .now .samples .now) (a .0 .now .answer) (a .1 .0) (a .1 .1 .0) (are .1 .0) (are .1 .1 .0) f C Λ fm known))
 
     pub two-meets : {M : Type 1} (𝓤 : URA M) (H : Heap 𝓤) (A : Atoms 𝓤) → Given 𝓤 H A → (f : Name) (𝓣 : Tables 𝓤 H) → Triple 𝓤 (𝓣 .C f) (Callee 𝓤 H A)
         → Meets 𝓤 H A (outEnded .signature) (WpFn 𝓤 H (𝓣 .C) (𝓣 .Λ) (twoFn (B₁ .τ) (B₂ .τ) f)) (closing 𝓤 H A outEnded (outClauses 𝓤 H A))
     two-meets 𝓤 H A W f 𝓣 known =
-        walk-meets 𝓤 H A outEnded stayed W (goes-ref 𝓤 H A W 2 0 tt SignalS, (goes-none 𝓤 H A W 2 (λ _. rowOf B₁) yes (λ κs x f. refl), (goes-none 𝓤 H A W 2 (λ _. rowOf B₂) yes (λ κs x f. refl), tt))) (outClauses 𝓤 H A)
+        walk-meets 𝓤 H A outEnded stayed W (goes-ref 𝓤 H A W 2 0 tt SignalS, (goes-by-value 𝓤 H A W 2 B₁, (goes-by-value 𝓤 H A W 2 B₂, tt)))
+        (outClauses 𝓤 H A)
         (WpFn 𝓤 H (𝓣 .C) (𝓣 .Λ) (twoFn (B₁ .τ) (B₂ .τ) f)) (WpFn-mono 𝓤 H (W .laws) 𝓣 (twoFn (B₁ .τ) (B₂ .τ) f)) (two-walks 𝓤 H A W f (𝓣 .C) (𝓣 .Λ) (fmOf 𝓤 H (W .laws) 𝓣) known)

@@ -36,15 +36,15 @@ use denote.Triple.Spec.{Meets, tripleOf}
 use denote.Triple.Statement.{Contract, Triple}
 use denote.Triple.Call.{calls-at}
 use denote.Triple.Clauses.{Ended, Clauses, closing, ensured, lasts}
-use denote.Triple.Walked.{says, Stays, stay-ref, stay-none, walkOf, goes-ref, goes-none, Walks, ends-at, walked, walk-meets}
+use denote.Triple.Walked.{says, Stays, stay-ref, stay-none, walkOf, goes-ref, Walks, ends-at, walked, walk-meets}
 use denote.Exit.{yes}
 use denote.Signature.{plain, namedLft}
+use Rattle.answers.specs.Left.{left}
 use Rattle.signal.specs.declared.Answer.{Answer}
 use Rattle.held.specs.declared.Signal.{Signal}
-use Rattle.held.specs.Held.{seen}
 use Rattle.held.proofs.Signal as T
 use Rattle.held.proofs.Signal.Laws as T′
-use Rattle.held.proofs.ByValue.{ByValue, ByValueLaws, rowOf}
+use Rattle.laws.proofs.ByValue.{ByValue, ByValueLaws, rowOf, goes-by-value, valsOf}
 use Rattle.held.proofs.Inside.{Inside}
 use Rattle.held.proofs.Lent as Lent
 use Rattle.held.proofs.Lent.{lent, SignalS}
@@ -68,7 +68,12 @@ module _ (I : Inside) (B₁ : ByValue) (L₁ : ByValueLaws B₁) (B : ByValue) (
 
   abbrev outEnded : Ended
   outEnded = record {
-    signature = record { lifetimes = 2; outlives = record { long = 1; long-ok = tt; short = 0; short-ok = tt } ∷ []; params = RefMutOf (0 ∷ []) tt SignalS (λ κs. tt) ∷ plain (λ κs. rowOf B₁) ∷ []; result = plain (λ κs. rowOf B) };
+    signature = record {
+      lifetimes = 2;
+      outlives = record { long = 1; long-ok = tt; short = 0; short-ok = tt } ∷ [];
+      params = RefMutOf (0 ∷ []) tt SignalS (λ κs. tt) ∷ plain (λ κs. rowOf B₁) ∷ [];
+      result = plain (λ κs. rowOf B);
+    };
     kept = (yes, (yes, tt));
   }
 
@@ -81,7 +86,7 @@ module _ (I : Inside) (B₁ : ByValue) (L₁ : ByValueLaws B₁) (B : ByValue) (
       inClauses κs a = record { ghost = Unit {0}; requires = λ g. emp 𝓤; ensures = λ g r end. fact 𝓤 (r ≡ gives (a .0) (a .1 .0)) }
 
       abbrev outClauses : Clauses 𝓤 outEnded
-      outClauses κs a = record { ghost = Unit {0}; requires = λ g. emp 𝓤; ensures = λ g r end. fact 𝓤 (seen r (now (end .0)) ≡ seen (gives (I .of (now (a .0) .answer)) (a .1 .0)) (now (a .0))) }
+      outClauses κs a = record { ghost = Unit {0}; requires = λ g. emp 𝓤; ensures = λ g r end. fact 𝓤 (left r (now (end .0)) ≡ left (gives (I .of (now (a .0) .answer)) (a .1 .0)) (now (a .0))) }
 
       abbrev pub Callee : Contract 𝓤
       Callee = tripleOf 𝓤 H A (inEnded .signature) (closing 𝓤 H A inEnded inClauses)
@@ -90,7 +95,8 @@ module _ (I : Inside) (B₁ : ByValue) (L₁ : ByValueLaws B₁) (B : ByValue) (
       told : (p : I .B .like .Denot) (v : B₁ .like .Denot) (r : B .like .Denot) → ent 𝓤 (ensured 𝓤 H A inEnded inClauses tt (p, (v, tt)) tt r) (fact 𝓤 (r ≡ gives p v))
       told p v r = exE 𝓤 _ (λ ws. snd∗ 𝓤 (sem 𝓤 H A (lasts inEnded tt (p, (v, tt)) ws)) (fact 𝓤 (r ≡ gives p v)))
 
-    module _ {M : Type 1} (𝓤 : URA M) (H : Heap 𝓤) (A : Atoms 𝓤) (W : Given 𝓤 H A) (κ κ′ : Lft) (bounds : AllOutlive 2 (outEnded .signature .outlives) (κ, (κ′, tt))) (q q′ : Share) (b o : ℕ) (γ : GName) (b′ o′ : ℕ) (γ′ : GName) (ys : List Float) (n : Answer) (v : B₁ .like .Denot) (v-is : Is (rowOf B₁) v (L₁ .val v ∷ [])) where
+    module _ {M : Type 1} (𝓤 : URA M) (H : Heap 𝓤) (A : Atoms 𝓤) (W : Given 𝓤 H A) (κ κ′ : Lft) (bounds : AllOutlive 2 (outEnded .signature .outlives) (κ, (κ′, tt))) (q q′ : Share) (b o : ℕ)
+        (γ : GName) (b′ o′ : ℕ) (γ′ : GName) (ys : List Float) (n : Answer) (v : B₁ .like .Denot) (v-is : Is (rowOf B₁) v (L₁ .val v ∷ [])) where
       abbrev α : NamedLft
       α = record { mir = named 1; lft = κ′ }
 
@@ -127,10 +133,12 @@ module _ (I : Inside) (B₁ : ByValue) (L₁ : ByValueLaws B₁) (B : ByValue) (
       goes : ent 𝓤 (sep 𝓤 (sem 𝓤 H A ftrue) (sem 𝓤 H A (owns (rowOf (I .B) ∷ rowOf B₁ ∷ []) (p, (v, tt)) passed))) (Callee 𝓤 H A .pre to-callee)
       goes = qed W (‵ ftrue ∷ ‵ (owns (rowOf (I .B) ∷ rowOf B₁ ∷ []) (p, (v, tt)) passed) ∷ []) ∵ join ! $ frame ! $ done !
 
-      exits : (r : B .like .Denot) (w : Val) → r ≡ gives p v → ent 𝓤 (⋆ 𝓤 H A (‵ (rowOf B .own r (w ∷ [])) ∷ ‵ (fobs γ (R .coded .code h)) ∷ ‵ (fbor κ (Body (mem R) b o γ)) ∷ ‵ (flft κ q) ∷ (‵ (flft κ′ q′) ⊛ ‵ ftrue) ∷ [])) (Post w)
+      exits : (r : B .like .Denot) (w : Val) → r ≡ gives p v
+          → ent 𝓤 (⋆ 𝓤 H A (‵ (rowOf B .own r (w ∷ [])) ∷ ‵ (fobs γ (R .coded .code h)) ∷ ‵ (fbor κ (Body (mem R) b o γ)) ∷ ‵ (flft κ q) ∷ (‵ (flft κ′ q′) ⊛ ‵ ftrue) ∷ [])) (Post w)
       exits r w e =
           qed W (‵ (rowOf B .own r (w ∷ [])) ∷ ‵ (fobs γ (R .coded .code h)) ∷ ‵ (fbor κ (Body (mem R) b o γ)) ∷ ‵ (flft κ q) ∷ (‵ (flft κ′ q′) ⊛ ‵ ftrue) ∷ []) ∵
-          suffices ! _ (ends-at 𝓤 H A outEnded stayed (outClauses 𝓤 H A) W (((κ, (κ′, tt)), (q, (q′, tt)), bounds, a, vals), tt) w r (h, (tt, tt)) (tt, (tt, tt))) $ says ! (ap (λ (y : B .like .Denot). seen y h) e) $
+          suffices ! _ (ends-at 𝓤 H A outEnded stayed (outClauses 𝓤 H A) W (((κ, (κ′, tt)), (q, (q′, tt)), bounds, a, vals), tt) w r (h, (tt, tt)) (tt, (tt, tt))) $
+          says ! (ap (λ (y : B .like .Denot). left y h) e) $
           move ! (3 ∷ 4 ∷ []) $ join ! $ frame ! $ move ! (1 ∷ 2 ∷ []) $ feqI ! (List Val) (vptr b o ∷ []) (vptr b o ∷ []) refl $ fjoin3 ! $
           nothing ! $ owned ! (rowOf B₁) (Is (rowOf B₁)) (L₁ .makes 𝓤 H A W) v _ v-is $ fjoin ! $ move ! (1 ∷ 0 ∷ []) $ fjoin ! $ done !
 
@@ -138,19 +146,23 @@ module _ (I : Inside) (B₁ : ByValue) (L₁ : ByValueLaws B₁) (B : ByValue) (
         walk : ent 𝓤 (onEntry 𝓤 H A (outEnded .signature) (κ, (κ′, tt)) (q, (q′, tt)) a vals) (WpFn 𝓤 H C Λ (atFn I (B₁ .τ) (B .τ) f) (vptr b o ∷ L₁ .val v ∷ []) Post)
         walk =
             qed W ((‵ (flft κ q) ⊛ ‵ (flft κ′ q′) ⊛ ‵ ftrue) ∷ ‵ (owns (MutRef (named 0) κ R ∷ rowOf B₁ ∷ []) a vals) ∷ []) ∵ enter ! C Λ (atFn I (B₁ .τ) (B .τ) f) (vptr b o ∷ L₁ .val v ∷ []) _ $
-            alloc1 ! (λ l₀. alloc1 ! (λ l₁. alloc1 ! (λ l₂. alloc1 ! (λ l₃. alloc0 ! $ params1 ! $ pass1 ! (init ! 4 refl (tt, tt)) $ pass1 ! (init ! 2 refl (L₁ .lawful 𝓤 H A W .typed v _ v-is .0)) $ pass0 ! $
+            alloc1 ! (λ l₀. alloc1 ! (λ l₁. alloc1 ! (λ l₂. alloc1 ! (λ l₃. alloc0 ! $ params1 ! $ pass1 ! (init ! 4 refl (tt, tt)) $ pass1 ! (init ! 2 refl (L₁ .lawful 𝓤 H A W .typed v _ v-is .0)) $
+            pass0 ! $
             -- the outer borrow is opened, the part is read, and the borrow is closed as it was
             move ! (9 ∷ []) $ fsplit ! $ fsplit3 ! $ drop ! $ move ! (11 ∷ []) $ split ! $ move ! (2 ∷ 3 ∷ 0 ∷ []) $
             opens ! tt R {h = h} b o (λ vs. spelt ! R (Is R) (shows 𝓤 H A R) (LL.vals (T.the-type α) (T′.the-laws α)) (LL.tells (T.the-type α) (T′.the-laws α)) fullShare h vs b o $
             use1 W (‵ (fat fullShare (T′.mir erased) b o mach)) (W .laws .raw-at fullShare (T′.mir erased) b o mach) $
             move ! (1 ∷ []) $ peeks ! R (Is R) (shows 𝓤 H A R) h (mach ∷ []) (λ g. move ! (1 ∷ 0 ∷ []) $
             -- [the struct's cell; what the struct owns; the open borrow; obs; auth; the inner token; the argument's; _3; …; _2; …; _1; …; room for _0; …]
-            assigns ! (of-opd ! (load ! (from ! (hop ! (look ! 11 refl) (I .finds 𝓤 H A W _ _ b o))) (I .reads 𝓤 H A W _ b o b′ o′ (length ys) n))) (from ! (stop !)) (init ! 7 refl (I .L .lawful 𝓤 H A W .typed p _ (I .is n (Lent.answer-is α h mach g)) .0)) $
+            assigns ! (of-opd ! (load ! (from ! (hop ! (look ! 11 refl) (I .finds 𝓤 H A W _ _ b o))) (I .reads 𝓤 H A W _ b o b′ o′ (length ys) n))) (from ! (stop !))
+            (init ! 7 refl (I .L .lawful 𝓤 H A W .typed p _ (I .is n (Lent.answer-is α h mach g)) .0)) $
             use1 W (‵ (cellAt fullShare (R .mir) (mach ∷ []) b o)) (W .laws .at-raw fullShare (T′.mir erased) b o mach) $ closes ! tt R h (mach ∷ []) b o $
-            nothing ! $ owned ! (rowOf B₁) (Is (rowOf B₁)) (L₁ .makes 𝓤 H A W) v _ v-is $ fjoin ! $ owned ! (rowOf (I .B)) (Is (rowOf (I .B))) (I .L .makes 𝓤 H A W) p _ (I .is n (Lent.answer-is α h mach g)) $ fjoin ! $ nothing ! $
+            nothing ! $ owned ! (rowOf B₁) (Is (rowOf B₁)) (L₁ .makes 𝓤 H A W) v _ v-is $ fjoin ! $
+            owned ! (rowOf (I .B)) (Is (rowOf (I .B))) (I .L .makes 𝓤 H A W) p _ (I .is n (Lent.answer-is α h mach g)) $ fjoin ! $ nothing ! $
             use2 W (raw (Callee 𝓤 H A .pre to-callee)) goes $
             calls-at ! fm (Callee 𝓤 H A) known to-callee (and-then ! (load ! (from ! (stop !)) (look ! 6 refl)) (and-then ! (load ! (from ! (stop !)) (look ! 8 refl)) (no-more !))) (λ w.
-            use1 W (later (some (λ (r : B .like .Denot). (‵ ftrue ⊛ ‵ (rowOf B .own r (w ∷ []))) ⊛ raw (ensured 𝓤 H A inEnded (inClauses 𝓤 H A) tt (p, (v, tt)) tt r)))) (id⊢ 𝓤 _) $ await ! tt $ pick ! (λ r.
+            use1 W (later (some (λ (r : B .like .Denot). (‵ ftrue ⊛ ‵ (rowOf B .own r (w ∷ []))) ⊛ raw (ensured 𝓤 H A inEnded (inClauses 𝓤 H A) tt (p, (v, tt)) tt r)))) (id⊢ 𝓤 _) $ await ! tt $
+            pick ! (λ r.
             split ! $ move ! (1 ∷ []) $ use1 W (raw (fact 𝓤 (r ≡ gives p v))) (told 𝓤 H A p v r) $ heard ! (r ≡ gives p v) (λ e. split ! $ drop ! $
             peeks ! (rowOf B) (Is (rowOf B)) (shows 𝓤 H A (rowOf B)) r (w ∷ []) (λ is.
             land ! (from ! (stop !)) (init ! 12 refl (L .lawful 𝓤 H A W .typed r _ is .0)) $
@@ -160,14 +172,16 @@ module _ (I : Inside) (B₁ : ByValue) (L₁ : ByValueLaws B₁) (B : ByValue) (
             keep ! (0 ∷ 1 ∷ 2 ∷ 3 ∷ 4 ∷ []) $ by ! (exits r w e)))))))))))
 
     module _ {M : Type 1} (𝓤 : URA M) (H : Heap 𝓤) (A : Atoms 𝓤) (W : Given 𝓤 H A) where
-      at-walks : (f : Name) (C : Calls 𝓤 H) (Λ : Loops 𝓤 H) → FmC 𝓤 H (W .laws) C → Triple 𝓤 (C f) (Callee 𝓤 H A) → Walks 𝓤 H A outEnded stayed (WpFn 𝓤 H C Λ (atFn I (B₁ .τ) (B .τ) f)) (outClauses 𝓤 H A)
+      at-walks : (f : Name) (C : Calls 𝓤 H) (Λ : Loops 𝓤 H) → FmC 𝓤 H (W .laws) C → Triple 𝓤 (C f) (Callee 𝓤 H A)
+          → Walks 𝓤 H A outEnded stayed (WpFn 𝓤 H C Λ (atFn I (B₁ .τ) (B .τ) f)) (outClauses 𝓤 H A)
       at-walks f C Λ fm known = walked 𝓤 H A outEnded stayed (outClauses 𝓤 H A) (WpFn 𝓤 H C Λ (atFn I (B₁ .τ) (B .τ) f))
-          (λ κs. (ptr-vals, ((λ (y : B₁ .like .Denot). L₁ .val y ∷ []), tt))) (λ κs. (mut-tells (named 0) (κs .0) (T.the-row (namedLft 2 1 tt κs)), (L₁ .tells, tt)))
+          (λ κs. (ptr-vals, (valsOf L₁, tt))) (λ κs. (mut-tells (named 0) (κs .0) (T.the-row (namedLft 2 1 tt κs)), (L₁ .tells, tt)))
           (λ κs qs bounds a g are. via 𝓤 _ (fst∗ 𝓤 _ (emp 𝓤))
-          (walk 𝓤 H A W (κs .0) (κs .1 .0) bounds (qs .0) (qs .1 .0) (a .0 .ptr .0) (a .0 .ptr .1) (a .0 .name) (a .0 .now .samples .ptr .0) (a .0 .now .samples .ptr .1) (a .0 .now .samples .name) (a .0 .now .samples .now) (a .0 .now .answer) (a .1 .0) (are .1 .0) f C Λ fm known))
+          (walk 𝓤 H A W (κs .0) (κs .1 .0) bounds (qs .0) (qs .1 .0) (a .0 .ptr .0) (a .0 .ptr .1) (a .0 .name) (a .0 .now .samples .ptr .0) (a .0 .now .samples .ptr .1) (a .0 .now .samples .name)
+          (a .0 .now .samples .now) (a .0 .now .answer) (a .1 .0) (are .1 .0) f C Λ fm known))
 
     pub at-meets : {M : Type 1} (𝓤 : URA M) (H : Heap 𝓤) (A : Atoms 𝓤) → Given 𝓤 H A → (f : Name) (𝓣 : Tables 𝓤 H) → Triple 𝓤 (𝓣 .C f) (Callee 𝓤 H A)
         → Meets 𝓤 H A (outEnded .signature) (WpFn 𝓤 H (𝓣 .C) (𝓣 .Λ) (atFn I (B₁ .τ) (B .τ) f)) (closing 𝓤 H A outEnded (outClauses 𝓤 H A))
     at-meets 𝓤 H A W f 𝓣 known =
-        walk-meets 𝓤 H A outEnded stayed W (goes-ref 𝓤 H A W 2 0 tt SignalS, (goes-none 𝓤 H A W 2 (λ _. rowOf B₁) yes (λ κs x f. refl), tt)) (outClauses 𝓤 H A)
+        walk-meets 𝓤 H A outEnded stayed W (goes-ref 𝓤 H A W 2 0 tt SignalS, (goes-by-value 𝓤 H A W 2 B₁, tt)) (outClauses 𝓤 H A)
         (WpFn 𝓤 H (𝓣 .C) (𝓣 .Λ) (atFn I (B₁ .τ) (B .τ) f)) (WpFn-mono 𝓤 H (W .laws) 𝓣 (atFn I (B₁ .τ) (B .τ) f)) (at-walks 𝓤 H A W f (𝓣 .C) (𝓣 .Λ) (fmOf 𝓤 H (W .laws) 𝓣) known)

@@ -1,26 +1,27 @@
--- Calls in a row, by their contracts alone: `new`, then `set_duty_cycle`, `set_phase` and `reset_waveform` leave the state and the samples that the definitions of crate `signal` give, in the slice that was lent at first.
+-- Calls in a row, by their contracts alone: `new`, then `set_duty_cycle`, `set_phase` and `reset_waveform` leave the state and the samples that the definitions
+-- of crate `signal` give, in the slice that was lent at first.
 -- Assumes nothing.
 use mathlib.Core.Path.{_≡_, _∙_, ap}
 use mathlib.Core.List.{List}
 use lib.Ieee.{Float}
 use denote.Ref.{RefT, now}
 use Rattle.generator.specs.declared.Wave.{Wave}
-use Rattle.signal.specs.Calls.{Left, highest, newOf, phaseSet, dutySet, resetOf}
+use Rattle.signal.specs.Calls.{SignalLeft, highest, newOf, phaseSet, dutySet, resetOf}
 use Rattle.held.specs.declared.Signal.{Signal}
 use Rattle.held.specs.Held.{beside, after}
 
 module _ (wave : Wave) (amplitude frequency duty phase : Float) where
   -- by value: each call takes what the one before left
-  abbrev made : List Float → Left
+  abbrev made : List Float → SignalLeft
   made xs = newOf highest wave amplitude frequency xs
 
-  abbrev dutied : List Float → Left
+  abbrev dutied : List Float → SignalLeft
   dutied xs = dutySet highest (made xs .answer .state) duty (made xs .places)
 
-  abbrev phased : List Float → Left
+  abbrev phased : List Float → SignalLeft
   phased xs = phaseSet highest (dutied xs .answer .state) phase (dutied xs .places)
 
-  abbrev emptied : List Float → Left
+  abbrev emptied : List Float → SignalLeft
   emptied xs = resetOf (phased xs .answer .state) (phased xs .places)
 
   -- what each later call's contract says of the signal

@@ -32,11 +32,14 @@ abbrev spends : Fields slots no
 spends = (stay-dropped (mutSliceOf (0 ∷ []) tt (plain (λ _. f32))) no, (stay-none (λ _. N.the-field .row) no, tt))
 
 abbrev pub signal-spent : Stay SignalS no
-signal-spent = stay-declared (structAt name (named 0 ∷ []) slots) no (stay-struct-at name (named 0 ∷ []) slots no spends) Signal (λ κs. T.the-type (namedLft 1 0 tt κs) .to) (λ κs. T.the-type (namedLft 1 0 tt κs) .to-one)
+signal-spent =
+    stay-declared (structAt name (named 0 ∷ []) slots) no (stay-struct-at name (named 0 ∷ []) slots no spends) Signal (λ κs. T.the-type (namedLft 1 0 tt κs) .to)
+    (λ κs. T.the-type (namedLft 1 0 tt κs) .to-one)
 
 module _ {M : Type 1} (𝓤 : URA M) (H : Heap 𝓤) (A : Atoms 𝓤) (W : Given 𝓤 H A) where
   pub signal-spent-goes : Goes 𝓤 H A W 1 SignalS no signal-spent
   signal-spent-goes =
-      goes-declared 𝓤 H A W 1 (structAt name (named 0 ∷ []) slots) no (stay-struct-at name (named 0 ∷ []) slots no spends) Signal (λ κs. T.the-type (namedLft 1 0 tt κs) .to) (λ κs. T.the-type (namedLft 1 0 tt κs) .to-one)
+      goes-declared 𝓤 H A W 1 (structAt name (named 0 ∷ []) slots) no (stay-struct-at name (named 0 ∷ []) slots no spends) Signal (λ κs. T.the-type (namedLft 1 0 tt κs) .to)
+      (λ κs. T.the-type (namedLft 1 0 tt κs) .to-one)
       (goes-struct-at 𝓤 H A W 1 name (named 0 ∷ []) slots no spends
       (goes-spent-slice 𝓤 H A W 1 (0 ∷ []) tt (plain (λ _. f32)), (goes-none 𝓤 H A W 1 (λ _. N.the-field .row) no (λ κs x f. refl), tt)))

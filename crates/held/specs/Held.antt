@@ -6,21 +6,21 @@ use denote.Ref.{RefT, at-last}
 use Rattle.port.specs.declared.Port.{Port}
 use Rattle.port.specs.Fields.{Cell, put}
 use Rattle.signal.specs.declared.Answer.{Answer}
-use Rattle.signal.specs.Calls.{Left}
+use Rattle.signal.specs.Calls.{SignalLeft}
 use Rattle.held.specs.declared.Signal.{Signal}
 
 -- 01, item 10, "A signal keeps the caller's sample slice beside its record": the slice that was lent, at what the call left in it
-abbrev pub beside : RefT (List Float) → Left → Signal
+abbrev pub beside : RefT (List Float) → SignalLeft → Signal
 beside samples l = record { samples = at-last samples (l .places); answer = l .answer }
 
 -- the same slice, after a later call
-abbrev pub after : Signal → Left → Signal
+abbrev pub after : Signal → SignalLeft → Signal
 after s l = beside (s .samples) l
 
 -- ---- settings of the port: the samples, the outcome and the rest of the state stay
 
 abbrev pub swapped : Answer → Port → Answer
-swapped a p = record { outcome = a .outcome; state = record { shape = a .state .shape; port = p; figures = a .state .figures; thd = a .state .thd } }
+swapped a p = record { outcome = a .outcome; state = record { shape = a .state .shape; port = p; metrics = a .state .metrics } }
 
 abbrev pub withPort : Signal → Port → Signal
 withPort s p = record { samples = s .samples; answer = swapped (s .answer) p }
@@ -28,12 +28,3 @@ withPort s p = record { samples = s .samples; answer = swapped (s .answer) p }
 -- the port with the field at i set to x
 abbrev pub withField : Signal → ℕ → Cell → Signal
 withField s i x = withPort s (put (s .answer .state .port) i x)
-
--- ---- what a reading leaves behind: what it answers, and the signal
-
-pub record Seen (A : Type 0) : Type 0 where
-  pub value : A
-  pub signal : Signal
-
-abbrev pub seen : {A : Type 0} → A → Signal → Seen A
-seen x s = record { value = x; signal = s }

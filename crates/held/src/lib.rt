@@ -2,12 +2,13 @@
 mod parts;
 
 ghost use mathlib.Core.Path.{_≡_};
+ghost use Rattle.answers.specs.Left.{left};
 ghost use Rattle.signal.specs.State.{metricsOf};
 ghost use Rattle.signal.specs.Calls.{highest, newOf, newPortOf, phaseSet, dutySet, resetOf};
 ghost use Rattle.port.specs.Fields.{number, reading, places, flag};
 ghost use Rattle.port.specs.Fields as Fields;
 ghost use Rattle.port.specs.Readings.{placeOf, withPlace, instantaneousPower, cleared};
-ghost use Rattle.held.specs.Held.{beside, after, withPort, withField, seen};
+ghost use Rattle.held.specs.Held.{beside, after, withPort, withField};
 use generator::Wave;
 use port::Port;
 use port::Reading;
@@ -77,7 +78,7 @@ impl<'a> Signal<'a> {
 
     // The 19 figures and THD.
     pub fn get_metrics(&mut self) -> Metrics
-        ensures { λ r. ⌜ seen r (now (self .exit)) ≡ seen (metricsOf (now (self .entry) .answer .state)) (now (self .entry)) ⌝ }
+        ensures { λ r. ⌜ left r (now (self .exit)) ≡ left (metricsOf (now (self .entry) .answer .state)) (now (self .entry)) ⌝ }
     {
         let state = self.answer.state;
         signal::get_metrics(state)
@@ -94,7 +95,7 @@ impl<'a> Signal<'a> {
 
     // The whole port.
     pub fn port(&mut self) -> Port
-        ensures { λ r. ⌜ seen r (now (self .exit)) ≡ seen (now (self .entry) .answer .state .port) (now (self .entry)) ⌝ }
+        ensures { λ r. ⌜ left r (now (self .exit)) ≡ left (now (self .entry) .answer .state .port) (now (self .entry)) ⌝ }
     {
         let port = self.answer.state.port;
         parts::as_it_is(port)
@@ -110,7 +111,7 @@ impl<'a> Signal<'a> {
     }
 
     pub fn voltage(&mut self) -> f32
-        ensures { λ r. ⌜ seen r (now (self .exit)) ≡ seen (now (self .entry) .answer .state .port .voltage) (now (self .entry)) ⌝ }
+        ensures { λ r. ⌜ left r (now (self .exit)) ≡ left (now (self .entry) .answer .state .port .voltage) (now (self .entry)) ⌝ }
     {
         let port = self.answer.state.port;
         port.voltage()
@@ -125,7 +126,7 @@ impl<'a> Signal<'a> {
     }
 
     pub fn current(&mut self) -> f32
-        ensures { λ r. ⌜ seen r (now (self .exit)) ≡ seen (now (self .entry) .answer .state .port .current) (now (self .entry)) ⌝ }
+        ensures { λ r. ⌜ left r (now (self .exit)) ≡ left (now (self .entry) .answer .state .port .current) (now (self .entry)) ⌝ }
     {
         let port = self.answer.state.port;
         port.current()
@@ -140,7 +141,7 @@ impl<'a> Signal<'a> {
     }
 
     pub fn frequency(&mut self) -> Reading
-        ensures { λ r. ⌜ seen r (now (self .exit)) ≡ seen (now (self .entry) .answer .state .port .frequency .reading) (now (self .entry)) ⌝ }
+        ensures { λ r. ⌜ left r (now (self .exit)) ≡ left (now (self .entry) .answer .state .port .frequency .reading) (now (self .entry)) ⌝ }
     {
         let port = self.answer.state.port;
         port.frequency()
@@ -155,7 +156,7 @@ impl<'a> Signal<'a> {
     }
 
     pub fn phase_angle(&mut self) -> Reading
-        ensures { λ r. ⌜ seen r (now (self .exit)) ≡ seen (now (self .entry) .answer .state .port .«phase_angle» .reading) (now (self .entry)) ⌝ }
+        ensures { λ r. ⌜ left r (now (self .exit)) ≡ left (now (self .entry) .answer .state .port .«phase_angle» .reading) (now (self .entry)) ⌝ }
     {
         let port = self.answer.state.port;
         port.phase_angle()
@@ -170,7 +171,7 @@ impl<'a> Signal<'a> {
     }
 
     pub fn active_power(&mut self) -> f32
-        ensures { λ r. ⌜ seen r (now (self .exit)) ≡ seen (now (self .entry) .answer .state .port .«active_power») (now (self .entry)) ⌝ }
+        ensures { λ r. ⌜ left r (now (self .exit)) ≡ left (now (self .entry) .answer .state .port .«active_power») (now (self .entry)) ⌝ }
     {
         let port = self.answer.state.port;
         port.active_power()
@@ -185,7 +186,7 @@ impl<'a> Signal<'a> {
     }
 
     pub fn reactive_power(&mut self) -> Reading
-        ensures { λ r. ⌜ seen r (now (self .exit)) ≡ seen (now (self .entry) .answer .state .port .«reactive_power» .reading) (now (self .entry)) ⌝ }
+        ensures { λ r. ⌜ left r (now (self .exit)) ≡ left (now (self .entry) .answer .state .port .«reactive_power» .reading) (now (self .entry)) ⌝ }
     {
         let port = self.answer.state.port;
         port.reactive_power()
@@ -200,7 +201,7 @@ impl<'a> Signal<'a> {
     }
 
     pub fn apparent_power(&mut self) -> Reading
-        ensures { λ r. ⌜ seen r (now (self .exit)) ≡ seen (now (self .entry) .answer .state .port .«apparent_power» .reading) (now (self .entry)) ⌝ }
+        ensures { λ r. ⌜ left r (now (self .exit)) ≡ left (now (self .entry) .answer .state .port .«apparent_power» .reading) (now (self .entry)) ⌝ }
     {
         let port = self.answer.state.port;
         port.apparent_power()
@@ -215,7 +216,7 @@ impl<'a> Signal<'a> {
     }
 
     pub fn power_factor(&mut self) -> Reading
-        ensures { λ r. ⌜ seen r (now (self .exit)) ≡ seen (now (self .entry) .answer .state .port .«power_factor» .reading) (now (self .entry)) ⌝ }
+        ensures { λ r. ⌜ left r (now (self .exit)) ≡ left (now (self .entry) .answer .state .port .«power_factor» .reading) (now (self .entry)) ⌝ }
     {
         let port = self.answer.state.port;
         port.power_factor()
@@ -230,7 +231,7 @@ impl<'a> Signal<'a> {
     }
 
     pub fn displacement_pf(&mut self) -> Reading
-        ensures { λ r. ⌜ seen r (now (self .exit)) ≡ seen (now (self .entry) .answer .state .port .«displacement_pf» .reading) (now (self .entry)) ⌝ }
+        ensures { λ r. ⌜ left r (now (self .exit)) ≡ left (now (self .entry) .answer .state .port .«displacement_pf» .reading) (now (self .entry)) ⌝ }
     {
         let port = self.answer.state.port;
         port.displacement_pf()
@@ -245,7 +246,7 @@ impl<'a> Signal<'a> {
     }
 
     pub fn energy_imported(&mut self) -> f64
-        ensures { λ r. ⌜ seen r (now (self .exit)) ≡ seen (now (self .entry) .answer .state .port .«energy_imported») (now (self .entry)) ⌝ }
+        ensures { λ r. ⌜ left r (now (self .exit)) ≡ left (now (self .entry) .answer .state .port .«energy_imported») (now (self .entry)) ⌝ }
     {
         let port = self.answer.state.port;
         port.energy_imported()
@@ -260,7 +261,7 @@ impl<'a> Signal<'a> {
     }
 
     pub fn energy_exported(&mut self) -> f64
-        ensures { λ r. ⌜ seen r (now (self .exit)) ≡ seen (now (self .entry) .answer .state .port .«energy_exported») (now (self .entry)) ⌝ }
+        ensures { λ r. ⌜ left r (now (self .exit)) ≡ left (now (self .entry) .answer .state .port .«energy_exported») (now (self .entry)) ⌝ }
     {
         let port = self.answer.state.port;
         port.energy_exported()
@@ -275,7 +276,7 @@ impl<'a> Signal<'a> {
     }
 
     pub fn voltage_thd(&mut self) -> Reading
-        ensures { λ r. ⌜ seen r (now (self .exit)) ≡ seen (now (self .entry) .answer .state .port .«voltage_thd» .reading) (now (self .entry)) ⌝ }
+        ensures { λ r. ⌜ left r (now (self .exit)) ≡ left (now (self .entry) .answer .state .port .«voltage_thd» .reading) (now (self .entry)) ⌝ }
     {
         let port = self.answer.state.port;
         port.voltage_thd()
@@ -290,7 +291,7 @@ impl<'a> Signal<'a> {
     }
 
     pub fn current_thd(&mut self) -> Reading
-        ensures { λ r. ⌜ seen r (now (self .exit)) ≡ seen (now (self .entry) .answer .state .port .«current_thd» .reading) (now (self .entry)) ⌝ }
+        ensures { λ r. ⌜ left r (now (self .exit)) ≡ left (now (self .entry) .answer .state .port .«current_thd» .reading) (now (self .entry)) ⌝ }
     {
         let port = self.answer.state.port;
         port.current_thd()
@@ -305,7 +306,7 @@ impl<'a> Signal<'a> {
     }
 
     pub fn voltage_crest_factor(&mut self) -> Reading
-        ensures { λ r. ⌜ seen r (now (self .exit)) ≡ seen (now (self .entry) .answer .state .port .«voltage_crest_factor» .reading) (now (self .entry)) ⌝ }
+        ensures { λ r. ⌜ left r (now (self .exit)) ≡ left (now (self .entry) .answer .state .port .«voltage_crest_factor» .reading) (now (self .entry)) ⌝ }
     {
         let port = self.answer.state.port;
         port.voltage_crest_factor()
@@ -320,7 +321,7 @@ impl<'a> Signal<'a> {
     }
 
     pub fn current_crest_factor(&mut self) -> Reading
-        ensures { λ r. ⌜ seen r (now (self .exit)) ≡ seen (now (self .entry) .answer .state .port .«current_crest_factor» .reading) (now (self .entry)) ⌝ }
+        ensures { λ r. ⌜ left r (now (self .exit)) ≡ left (now (self .entry) .answer .state .port .«current_crest_factor» .reading) (now (self .entry)) ⌝ }
     {
         let port = self.answer.state.port;
         port.current_crest_factor()
@@ -336,7 +337,7 @@ impl<'a> Signal<'a> {
 
     // Places 0 to 15; a higher one is absent, and setting it does nothing.
     pub fn voltage_harmonic(&mut self, n: u8) -> Reading
-        ensures { λ r. ⌜ seen r (now (self .exit)) ≡ seen (placeOf (now (self .entry) .answer .state .port .«voltage_harmonics») n) (now (self .entry)) ⌝ }
+        ensures { λ r. ⌜ left r (now (self .exit)) ≡ left (placeOf (now (self .entry) .answer .state .port .«voltage_harmonics») n) (now (self .entry)) ⌝ }
     {
         let port = self.answer.state.port;
         port.voltage_harmonic(n)
@@ -352,7 +353,7 @@ impl<'a> Signal<'a> {
 
     // Places 0 to 15; a higher one is absent, and setting it does nothing.
     pub fn current_harmonic(&mut self, n: u8) -> Reading
-        ensures { λ r. ⌜ seen r (now (self .exit)) ≡ seen (placeOf (now (self .entry) .answer .state .port .«current_harmonics») n) (now (self .entry)) ⌝ }
+        ensures { λ r. ⌜ left r (now (self .exit)) ≡ left (placeOf (now (self .entry) .answer .state .port .«current_harmonics») n) (now (self .entry)) ⌝ }
     {
         let port = self.answer.state.port;
         port.current_harmonic(n)
@@ -367,7 +368,7 @@ impl<'a> Signal<'a> {
     }
 
     pub fn efficiency(&mut self) -> Reading
-        ensures { λ r. ⌜ seen r (now (self .exit)) ≡ seen (now (self .entry) .answer .state .port .efficiency .reading) (now (self .entry)) ⌝ }
+        ensures { λ r. ⌜ left r (now (self .exit)) ≡ left (now (self .entry) .answer .state .port .efficiency .reading) (now (self .entry)) ⌝ }
     {
         let port = self.answer.state.port;
         port.efficiency()
@@ -382,7 +383,7 @@ impl<'a> Signal<'a> {
     }
 
     pub fn losses(&mut self) -> Reading
-        ensures { λ r. ⌜ seen r (now (self .exit)) ≡ seen (now (self .entry) .answer .state .port .losses .reading) (now (self .entry)) ⌝ }
+        ensures { λ r. ⌜ left r (now (self .exit)) ≡ left (now (self .entry) .answer .state .port .losses .reading) (now (self .entry)) ⌝ }
     {
         let port = self.answer.state.port;
         port.losses()
@@ -397,28 +398,28 @@ impl<'a> Signal<'a> {
     }
 
     pub fn voltage_min(&mut self) -> f32
-        ensures { λ r. ⌜ seen r (now (self .exit)) ≡ seen (now (self .entry) .answer .state .port .«voltage_min») (now (self .entry)) ⌝ }
+        ensures { λ r. ⌜ left r (now (self .exit)) ≡ left (now (self .entry) .answer .state .port .«voltage_min») (now (self .entry)) ⌝ }
     {
         let port = self.answer.state.port;
         port.voltage_min()
     }
 
     pub fn voltage_max(&mut self) -> f32
-        ensures { λ r. ⌜ seen r (now (self .exit)) ≡ seen (now (self .entry) .answer .state .port .«voltage_max») (now (self .entry)) ⌝ }
+        ensures { λ r. ⌜ left r (now (self .exit)) ≡ left (now (self .entry) .answer .state .port .«voltage_max») (now (self .entry)) ⌝ }
     {
         let port = self.answer.state.port;
         port.voltage_max()
     }
 
     pub fn current_max(&mut self) -> f32
-        ensures { λ r. ⌜ seen r (now (self .exit)) ≡ seen (now (self .entry) .answer .state .port .«current_max») (now (self .entry)) ⌝ }
+        ensures { λ r. ⌜ left r (now (self .exit)) ≡ left (now (self .entry) .answer .state .port .«current_max») (now (self .entry)) ⌝ }
     {
         let port = self.answer.state.port;
         port.current_max()
     }
 
     pub fn power_max(&mut self) -> f32
-        ensures { λ r. ⌜ seen r (now (self .exit)) ≡ seen (now (self .entry) .answer .state .port .«power_max») (now (self .entry)) ⌝ }
+        ensures { λ r. ⌜ left r (now (self .exit)) ≡ left (now (self .entry) .answer .state .port .«power_max») (now (self .entry)) ⌝ }
     {
         let port = self.answer.state.port;
         port.power_max()
@@ -440,14 +441,14 @@ impl<'a> Signal<'a> {
     }
 
     pub fn is_enabled(&mut self) -> bool
-        ensures { λ r. ⌜ seen r (now (self .exit)) ≡ seen (now (self .entry) .answer .state .port .«is_enabled») (now (self .entry)) ⌝ }
+        ensures { λ r. ⌜ left r (now (self .exit)) ≡ left (now (self .entry) .answer .state .port .«is_enabled») (now (self .entry)) ⌝ }
     {
         let port = self.answer.state.port;
         port.is_enabled()
     }
 
     pub fn is_faulted(&mut self) -> bool
-        ensures { λ r. ⌜ seen r (now (self .exit)) ≡ seen (now (self .entry) .answer .state .port .«is_faulted») (now (self .entry)) ⌝ }
+        ensures { λ r. ⌜ left r (now (self .exit)) ≡ left (now (self .entry) .answer .state .port .«is_faulted») (now (self .entry)) ⌝ }
     {
         let port = self.answer.state.port;
         port.is_faulted()
@@ -463,7 +464,7 @@ impl<'a> Signal<'a> {
     }
 
     pub fn temperature(&mut self) -> Reading
-        ensures { λ r. ⌜ seen r (now (self .exit)) ≡ seen (now (self .entry) .answer .state .port .temperature .reading) (now (self .entry)) ⌝ }
+        ensures { λ r. ⌜ left r (now (self .exit)) ≡ left (now (self .entry) .answer .state .port .temperature .reading) (now (self .entry)) ⌝ }
     {
         let port = self.answer.state.port;
         port.temperature()
@@ -478,7 +479,7 @@ impl<'a> Signal<'a> {
     }
 
     pub fn instantaneous_power(&mut self) -> f32
-        ensures { λ r. ⌜ seen r (now (self .exit)) ≡ seen (instantaneousPower (now (self .entry) .answer .state .port)) (now (self .entry)) ⌝ }
+        ensures { λ r. ⌜ left r (now (self .exit)) ≡ left (instantaneousPower (now (self .entry) .answer .state .port)) (now (self .entry)) ⌝ }
     {
         let port = self.answer.state.port;
         port.instantaneous_power()

@@ -22,14 +22,15 @@ use denote.Triple.Statement.{Contract}
 use denote.Triple.Clauses.{Ended, Clauses, closing, ensured, lasts}
 use denote.Exit.{yes, no}
 use denote.Signature.{plain, namedLft}
-use Rattle.signal.specs.Calls.{Left}
+use Rattle.answers.specs.Left.{left}
+use Rattle.signal.specs.Calls.{SignalLeft}
 use Rattle.signal.specs.declared.Answer.{Answer}
 use Rattle.held.specs.declared.Signal.{Signal}
-use Rattle.held.specs.Held.{beside, after, seen}
+use Rattle.held.specs.Held.{beside, after}
 use Rattle.held.proofs.Signal as T
 use Rattle.signal.proofs.Answer as N
 use Rattle.signal.proofs.Answer.Laws as N′
-use Rattle.held.proofs.ByValue.{ByValue, ByValueLaws, rowOf}
+use Rattle.laws.proofs.ByValue.{ByValue, ByValueLaws, rowOf}
 use Rattle.held.proofs.Lent.{SignalS}
 
 abbrev pub answer : ByValue
@@ -46,11 +47,16 @@ answer-laws = record {
 module _ (B₁ B₂ B₃ : ByValue) where
   abbrev pub makingEnded : Ended
   makingEnded = record {
-    signature = record { lifetimes = 1; outlives = []; params = plain (λ κs. rowOf B₁) ∷ plain (λ κs. rowOf B₂) ∷ plain (λ κs. rowOf B₃) ∷ SliceRefMutOf (0 ∷ []) tt (plain (λ κs. f32)) (λ κs. tt) ∷ []; result = plain (λ κs. T.the-row (namedLft 1 0 tt κs)) };
+    signature = record {
+      lifetimes = 1;
+      outlives = [];
+      params = plain (λ κs. rowOf B₁) ∷ plain (λ κs. rowOf B₂) ∷ plain (λ κs. rowOf B₃) ∷ SliceRefMutOf (0 ∷ []) tt (plain (λ κs. f32)) (λ κs. tt) ∷ [];
+      result = plain (λ κs. T.the-row (namedLft 1 0 tt κs));
+    };
     kept = (yes, (yes, (yes, (no, tt))));
   }
 
-  module _ (gives : B₁ .like .Denot → B₂ .like .Denot → B₃ .like .Denot → List Float → Left) {M : Type 1} (𝓤 : URA M) (H : Heap 𝓤) (A : Atoms 𝓤) where
+  module _ (gives : B₁ .like .Denot → B₂ .like .Denot → B₃ .like .Denot → List Float → SignalLeft) {M : Type 1} (𝓤 : URA M) (H : Heap 𝓤) (A : Atoms 𝓤) where
     abbrev pub makingClauses : Clauses 𝓤 makingEnded
     makingClauses κs a = record { ghost = Unit {0}; requires = λ g. emp 𝓤; ensures = λ g r end. fact 𝓤 (r ≡ beside (a .1 .1 .1 .0) (gives (a .0) (a .1 .0) (a .1 .1 .0) (now (a .1 .1 .1 .0)))) }
 
@@ -64,24 +70,38 @@ module _ (B₁ B₂ B₃ : ByValue) where
 module _ (B : ByValue) where
   abbrev pub settingEnded : Ended
   settingEnded = record {
-    signature = record { lifetimes = 2; outlives = record { long = 1; long-ok = tt; short = 0; short-ok = tt } ∷ []; params = RefMutOf (0 ∷ []) tt SignalS (λ κs. tt) ∷ plain (λ κs. rowOf B) ∷ []; result = plain (λ κs. Builtin.unit) };
+    signature = record {
+      lifetimes = 2;
+      outlives = record { long = 1; long-ok = tt; short = 0; short-ok = tt } ∷ [];
+      params = RefMutOf (0 ∷ []) tt SignalS (λ κs. tt) ∷ plain (λ κs. rowOf B) ∷ [];
+      result = plain (λ κs. Builtin.unit);
+    };
     kept = (yes, (yes, tt));
   }
 
-  module _ (gives : Answer → B .like .Denot → List Float → Left) {M : Type 1} (𝓤 : URA M) (H : Heap 𝓤) (A : Atoms 𝓤) where
+  module _ (gives : Answer → B .like .Denot → List Float → SignalLeft) {M : Type 1} (𝓤 : URA M) (H : Heap 𝓤) (A : Atoms 𝓤) where
     abbrev pub settingClauses : Clauses 𝓤 settingEnded
-    settingClauses κs a = record { ghost = Unit {0}; requires = λ g. emp 𝓤; ensures = λ g r end. fact 𝓤 (now (end .0) ≡ after (now (a .0)) (gives (now (a .0) .answer) (a .1 .0) (now (now (a .0) .samples)))) }
+    settingClauses κs a = record {
+      ghost = Unit {0};
+      requires = λ g. emp 𝓤;
+      ensures = λ g r end. fact 𝓤 (now (end .0) ≡ after (now (a .0)) (gives (now (a .0) .answer) (a .1 .0) (now (now (a .0) .samples))));
+    }
 
     abbrev pub Setting : Contract 𝓤
     Setting = tripleOf 𝓤 H A (settingEnded .signature) (closing 𝓤 H A settingEnded settingClauses)
 
 abbrev pub resettingEnded : Ended
 resettingEnded = record {
-  signature = record { lifetimes = 2; outlives = record { long = 1; long-ok = tt; short = 0; short-ok = tt } ∷ []; params = RefMutOf (0 ∷ []) tt SignalS (λ κs. tt) ∷ []; result = plain (λ κs. Builtin.unit) };
+  signature = record {
+    lifetimes = 2;
+    outlives = record { long = 1; long-ok = tt; short = 0; short-ok = tt } ∷ [];
+    params = RefMutOf (0 ∷ []) tt SignalS (λ κs. tt) ∷ [];
+    result = plain (λ κs. Builtin.unit);
+  };
   kept = (yes, tt);
 }
 
-module _ (gives : Answer → List Float → Left) {M : Type 1} (𝓤 : URA M) (H : Heap 𝓤) (A : Atoms 𝓤) where
+module _ (gives : Answer → List Float → SignalLeft) {M : Type 1} (𝓤 : URA M) (H : Heap 𝓤) (A : Atoms 𝓤) where
   abbrev pub resettingClauses : Clauses 𝓤 resettingEnded
   resettingClauses κs a = record { ghost = Unit {0}; requires = λ g. emp 𝓤; ensures = λ g r end. fact 𝓤 (now (end .0) ≡ after (now (a .0)) (gives (now (a .0) .answer) (now (now (a .0) .samples)))) }
 
@@ -91,13 +111,18 @@ module _ (gives : Answer → List Float → Left) {M : Type 1} (𝓤 : URA M) (H
 module _ (B : ByValue) where
   abbrev pub readingEnded : Ended
   readingEnded = record {
-    signature = record { lifetimes = 2; outlives = record { long = 1; long-ok = tt; short = 0; short-ok = tt } ∷ []; params = RefMutOf (0 ∷ []) tt SignalS (λ κs. tt) ∷ []; result = plain (λ κs. rowOf B) };
+    signature = record {
+      lifetimes = 2;
+      outlives = record { long = 1; long-ok = tt; short = 0; short-ok = tt } ∷ [];
+      params = RefMutOf (0 ∷ []) tt SignalS (λ κs. tt) ∷ [];
+      result = plain (λ κs. rowOf B);
+    };
     kept = (yes, tt);
   }
 
   module _ (part : Answer → B .like .Denot) {M : Type 1} (𝓤 : URA M) (H : Heap 𝓤) (A : Atoms 𝓤) where
     abbrev pub readingClauses : Clauses 𝓤 readingEnded
-    readingClauses κs a = record { ghost = Unit {0}; requires = λ g. emp 𝓤; ensures = λ g r end. fact 𝓤 (seen r (now (end .0)) ≡ seen (part (now (a .0) .answer)) (now (a .0))) }
+    readingClauses κs a = record { ghost = Unit {0}; requires = λ g. emp 𝓤; ensures = λ g r end. fact 𝓤 (left r (now (end .0)) ≡ left (part (now (a .0) .answer)) (now (a .0))) }
 
     abbrev pub Reading : Contract 𝓤
     Reading = tripleOf 𝓤 H A (readingEnded .signature) (closing 𝓤 H A readingEnded readingClauses)

@@ -19,7 +19,8 @@ use base.Logic.{SProp, ent, sep, wand, ex, emp, id⊢}
 use base.Fml.{Lft, Share, GName, ftrue, fsep, fat, flft, fdead, fres, flent}
 use prog.Wp.{Heap}
 use ghost.Atoms.{Atoms, sem}
-use types.Kit.{Given, ‵, raw, _⊛_, some, later, _$_, _∵_, !, qed, move, keep, use1, use2, use3, split, join, pick, apply, fsplit, fjoin, fpick, fpack, frame, await, updating, now as at-once, show, done}
+use types.Kit.{Given, ‵, raw, _⊛_, some, later, _$_, _∵_, !, qed, move, keep, use1, use2, use3, split, join, pick, apply, fsplit, fjoin, fpick, fpack, frame, await}
+use types.Kit.{updating, now as at-once, show, done}
 use types.Tokens.{lft-new, lft-end}
 use types.SemTy.{Body}
 use contract.BorrowLft.{meet-⊑-left}
@@ -88,23 +89,27 @@ module _ {M : Type 1} (𝓤 : URA M) (H : Heap 𝓤) (A : Atoms 𝓤) (W : Given
       move ! (3 ∷ []) $ use1 W (‵ (flft κ (PosShare·left q)) ⊛ ‵ (flft κ (PosShare·right q))) (W .lfts .lft-split κ q) $ split ! $
       move ! (2 ∷ 0 ∷ []) $ use2 W (‵ (flft (ν ∷ κ) (PosShare·left q))) (W .lfts .lft-meet (ν ∷ []) κ (PosShare·left q)) $
       -- [the token of the loan; the other half; the way back; the signal lies in the local]
-      move ! (3 ∷ []) $ use1 W (later (some (λ (δ : GName). ‵ (MutRef (named 0) (ν ∷ κ) (R κ) .own (to l δ h) (vptr l 0 ∷ [])) ⊛ ‵ (flent (ν ∷ κ) (Body (mem (R κ)) l 0 δ))))) (lends-ref 𝓤 H A W (R κ) (named 0) (ν ∷ κ) h l 0) $ await ! tt $ pick ! (λ δ. split ! $
+      move ! (3 ∷ []) $ use1 W (later (some (λ (δ : GName). ‵ (MutRef (named 0) (ν ∷ κ) (R κ) .own (to l δ h) (vptr l 0 ∷ [])) ⊛ ‵ (flent (ν ∷ κ) (Body (mem (R κ)) l 0 δ)))))
+      (lends-ref 𝓤 H A W (R κ) (named 0) (ν ∷ κ) h l 0) $ await ! tt $ pick ! (λ δ. split ! $
       -- [the reference; the lender's part; the token of the loan; the other half; the way back]
       at-once ! $ show ! (λ (p : ℕ × GName). sep 𝓤 (loaned (p .0) (p .1) h) (withheld (p .0) (p .1))) (ν, δ) $
       nothing ! $ move ! (4 ∷ 0 ∷ []) $ join ! $ move ! (3 ∷ 0 ∷ []) $ join ! $ join ! $ frame ! $ done !))
 
   pub goes-lent : (C : Contract 𝓤) (out : ℕ × GName → C .Ghost) (h : Signal) → ((p : ℕ × GName) → ent 𝓤 (loaned (p .0) (p .1) h) (C .pre (out p)))
-      → (v : Val) → ent 𝓤 (sep 𝓤 (sem 𝓤 H A (fat fullShare (T′.mir erased) l 0 v)) (sep 𝓤 (sem 𝓤 H A (R κ .own h (v ∷ []))) (A .lft κ q))) (H .⇛ (ex 𝓤 (λ (p : ℕ × GName). sep 𝓤 (C .pre (out p)) (withheld (p .0) (p .1)))))
+      → (v : Val) → ent 𝓤 (sep 𝓤 (sem 𝓤 H A (fat fullShare (T′.mir erased) l 0 v)) (sep 𝓤 (sem 𝓤 H A (R κ .own h (v ∷ []))) (A .lft κ q)))
+      (H .⇛ (ex 𝓤 (λ (p : ℕ × GName). sep 𝓤 (C .pre (out p)) (withheld (p .0) (p .1)))))
   goes-lent C out h asked v =
       qed W (‵ (fat fullShare (T′.mir erased) l 0 v) ∷ ‵ (R κ .own h (v ∷ [])) ∷ ‵ (flft κ q) ∷ []) ∵ updating ! $
       use3 W (later (some (λ (p : ℕ × GName). raw (loaned (p .0) (p .1) h) ⊛ raw (withheld (p .0) (p .1))))) (lends h v) $ await ! tt $ pick ! (λ p. split ! $
       use1 W (raw (C .pre (out p))) (asked p) $ at-once ! $ show ! (λ (p : ℕ × GName). sep 𝓤 (C .pre (out p)) (withheld (p .0) (p .1))) p $ done !)
 
   pub comes-back : (ν : ℕ) (δ : GName) (h : Signal)
-      → ent 𝓤 (sep 𝓤 (tokens ν) (sep 𝓤 (withheld ν δ) (A .res δ (R κ .coded .code h)))) (H .⇛ (sep 𝓤 (sem 𝓤 H A (fat fullShare (T′.mir erased) l 0 (val κ h))) (sep 𝓤 (sem 𝓤 H A (R κ .own h (val κ h ∷ []))) (A .lft κ q))))
+      → ent 𝓤 (sep 𝓤 (tokens ν) (sep 𝓤 (withheld ν δ) (A .res δ (R κ .coded .code h))))
+      (H .⇛ (sep 𝓤 (sem 𝓤 H A (fat fullShare (T′.mir erased) l 0 (val κ h))) (sep 𝓤 (sem 𝓤 H A (R κ .own h (val κ h ∷ []))) (A .lft κ q))))
   unfolding partOf
   comes-back ν δ h =
-      qed W ((‵ (flft (ν ∷ κ) (PosShare·left q)) ⊛ ‵ (flft κ (PosShare·right q)) ⊛ ‵ ftrue) ∷ (‵ (flent (ν ∷ κ) (Body (mem (R κ)) l 0 δ)) ⊛ raw (wand 𝓤 (A .lft (ν ∷ []) (PosShare·left q)) (A .lft (ν ∷ []) fullShare))) ∷ ‵ (fres δ (R κ .coded .code h)) ∷ []) ∵ updating ! $
+      qed W ((‵ (flft (ν ∷ κ) (PosShare·left q)) ⊛ ‵ (flft κ (PosShare·right q)) ⊛ ‵ ftrue) ∷
+      (‵ (flent (ν ∷ κ) (Body (mem (R κ)) l 0 δ)) ⊛ raw (wand 𝓤 (A .lft (ν ∷ []) (PosShare·left q)) (A .lft (ν ∷ []) fullShare))) ∷ ‵ (fres δ (R κ .coded .code h)) ∷ []) ∵ updating ! $
       split ! $ use1 W (‵ (flft (ν ∷ []) (PosShare·left q)) ⊛ ‵ (flft κ (PosShare·left q))) (W .lfts .lft-unmeet (ν ∷ []) κ (PosShare·left q)) $ split ! $
       -- [a share of ν; one half of κ; the other half; what was kept; the last value]
       move ! (2 ∷ []) $ split ! $ move ! (3 ∷ 0 ∷ []) $ use2 W (‵ (flft κ q)) (W .lfts .lft-join κ q) $
@@ -113,6 +118,7 @@ module _ {M : Type 1} (𝓤 : URA M) (H : Heap 𝓤) (A : Atoms 𝓤) (W : Given
       use1 W (‵ (fdead (ν ∷ κ))) (W .lfts .dead-incl (ν ∷ κ) (ν ∷ []) (meet-⊑-left (ν ∷ []) κ)) $
       -- [the loan is over; the lender's part; the token; true; the last value]
       move ! (0 ∷ 1 ∷ 4 ∷ []) $ use3 W (later (‵ (partAt (R κ) fullShare h l 0))) (ref-back 𝓤 H A W (R κ) (ν ∷ κ) δ h l 0) $ await ! tt $
-      fpick ! (λ vs. fsplit ! $ spelt ! (R κ) (Is (R κ)) (shows 𝓤 H A (R κ)) (LL.vals (T.the-type (behind κ)) (T′.the-laws (behind κ))) (LL.tells (T.the-type (behind κ)) (T′.the-laws (behind κ))) fullShare h vs l 0 $
+      fpick ! (λ vs. fsplit ! $ spelt ! (R κ) (Is (R κ)) (shows 𝓤 H A (R κ)) (LL.vals (T.the-type (behind κ)) (T′.the-laws (behind κ)))
+      (LL.tells (T.the-type (behind κ)) (T′.the-laws (behind κ))) fullShare h vs l 0 $
       use1 W (‵ (fat fullShare (T′.mir erased) l 0 (val κ h))) (W .laws .raw-at fullShare (T′.mir erased) l 0 (val κ h)) $
       at-once ! $ keep ! (0 ∷ 1 ∷ 2 ∷ []) $ done !)

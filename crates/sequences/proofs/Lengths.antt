@@ -1,39 +1,25 @@
 -- Each call leaves as many samples as there were, refused or not.
 -- Assumes nothing.
-use mathlib.Core.Path.{_≡_, refl, _∙_, ap}
-use mathlib.Core.Bool.{Bool, true, false, cond}
+use mathlib.Core.Path.{_≡_, refl}
+use mathlib.Core.Bool.{false}
 use mathlib.Core.List.{List}
 use Prim.Native.Nat.{ℕ}
 use lib.Ieee.{Float}
 use lib.ListN.{length}
-use Rattle.answers.specs.Numbers.{tooLong}
 use Rattle.answers.proofs.Ended.{if-either}
-use Rattle.answers.specs.Written.{written}
-use Rattle.answers.specs.declared.Outcome.the-variants.{Done, TooLong}
 use Rattle.laws.specs.Literals.{zero32}
-use Rattle.laws.specs.Filled.{filled}
 use Rattle.laws.proofs.Filling.{filled-length}
 use Rattle.generator.specs.declared.Wave.{Wave}
 use Rattle.generator.specs.declared.Wave.the-variants.{DC}
-use Rattle.generator.specs.declared.Shape.{Shape}
-use Rattle.generator.specs.Sample.{generated, sampleAt}
+use Rattle.generator.proofs.Kept.{generated-length}
 use Rattle.port.specs.declared.Reading.{Reading}
 use Rattle.spectrum.specs.Spectrum.{outcomeOf}
 use Rattle.signal.specs.declared.State.{State}
-use Rattle.signal.specs.declared.Answer.{Answer}
-use Rattle.signal.specs.Calls.{Left, left, answer, unlessRefused, made, remade, newOf, phaseSet, dutySet, newPortOf, resetOf}
+use Rattle.signal.specs.Calls.{SignalLeft, answer, unlessRefused, made, remade, newOf, phaseSet, dutySet, newPortOf, resetOf}
 
-generated-length : (s : Shape) (xs : List Float) → length (generated s xs .places) ≡ length xs
-unfolding generated
-generated-length s xs = go (tooLong (length xs))
-  where
-    go : (b : Bool) → length (cond b (written TooLong xs) (written Done (filled (sampleAt s (length xs)) (length xs) xs)) .places) ≡ length xs
-    go true = refl
-    go false = filled-length (sampleAt s (length xs)) (length xs) xs
-
-judged-length : (s : State) (xs : List Float) (done : Left) → length (done .places) ≡ length xs → length (unlessRefused s xs done .places) ≡ length xs
+judged-length : (s : State) (xs : List Float) (done : SignalLeft) → length (done .places) ≡ length xs → length (unlessRefused s xs done .places) ≡ length xs
 unfolding unlessRefused
-judged-length s xs done e = if-either (λ (l : Left). length (l .places) ≡ length xs) (outcomeOf (length xs) false) done _ e refl
+judged-length s xs done e = if-either (λ (l : SignalLeft). length (l .places) ≡ length xs) (outcomeOf (length xs) false) done _ e refl
 
 remade-length : (top : ℕ) (earlier next : State) (xs : List Float) → length (remade top earlier next xs .places) ≡ length xs
 unfolding remade made
@@ -53,7 +39,7 @@ unfolding newPortOf
 port-length top voltage current frequency xs =
     let l = newOf top DC voltage zero32 xs in
     let e = new-length top DC voltage zero32 xs in
-    if-either (λ (m : Left). length (m .places) ≡ length xs) (l .answer .outcome) _ l e e
+    if-either (λ (m : SignalLeft). length (m .places) ≡ length xs) (l .answer .outcome) _ l e e
 
 pub reset-length : (s : State) (xs : List Float) → length (resetOf s xs .places) ≡ length xs
 unfolding resetOf

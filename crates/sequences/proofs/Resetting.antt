@@ -19,7 +19,7 @@ use denote.Builtin as Builtin
 use denote.Ref.{MutRef, now}
 use denote.Steps.{only, heard, nothing}
 use denote.Triple.Clauses.{ensured, lasts}
-use Rattle.signal.specs.Calls.{Left}
+use Rattle.signal.specs.Calls.{SignalLeft}
 use Rattle.signal.specs.declared.Answer.{Answer}
 use Rattle.held.specs.declared.Signal.{Signal}
 use Rattle.held.specs.Held.{after}
@@ -27,7 +27,7 @@ use Rattle.held.proofs.Signal.Laws as T′
 use Rattle.sequences.proofs.Callees.{resettingEnded, resettingClauses, Resetting}
 use Rattle.sequences.proofs.Lending.{R, val, to, tokens, loaned, withheld, comes-back}
 
-module _ (gives : Answer → List Float → Left) {M : Type 1} (𝓤 : URA M) (H : Heap 𝓤) (A : Atoms 𝓤) (W : Given 𝓤 H A) (κ : Lft) (q : Share) (n : ℕ) (g : Signal) where
+module _ (gives : Answer → List Float → SignalLeft) {M : Type 1} (𝓤 : URA M) (H : Heap 𝓤) (A : Atoms 𝓤) (W : Given 𝓤 H A) (κ : Lft) (q : Share) (n : ℕ) (g : Signal) where
   abbrev pub to-resetting : ℕ × GName → Resetting gives 𝓤 H A .Ghost
   to-resetting p = (((p .0 ∷ κ, (κ, tt)), (PosShare·left q, (PosShare·right q, tt)), (meet-⊑-right (p .0 ∷ []) κ, tt), (to n (p .1) g, tt), (vptr n 0 ∷ [], tt)), tt)
 
@@ -44,9 +44,11 @@ module _ (gives : Answer → List Float → Left) {M : Type 1} (𝓤 : URA M) (H
 
   pub settled : (p : ℕ × GName) (w : Val) → ent 𝓤 (sep 𝓤 (Resetting gives 𝓤 H A .post (to-resetting p) w) (withheld 𝓤 H A W κ q n (p .0) (p .1))) (H .⇛ (guard 𝓤 (w ≡ vunit) had))
   settled p w =
-      qed W (later (some (λ (r : Unit {0}). (raw (tokens 𝓤 H A W κ q n (p .0)) ⊛ ‵ (Builtin.unit .own r (w ∷ []))) ⊛ raw (ensured 𝓤 H A resettingEnded (resettingClauses gives 𝓤 H A) (p .0 ∷ κ, (κ, tt)) (to n (p .1) g, tt) tt r))) ∷ raw (withheld 𝓤 H A W κ q n (p .0) (p .1)) ∷ []) ∵ updating ! $
+      qed W (later (some (λ (r : Unit {0}). (raw (tokens 𝓤 H A W κ q n (p .0)) ⊛ ‵ (Builtin.unit .own r (w ∷ []))) ⊛
+      raw (ensured 𝓤 H A resettingEnded (resettingClauses gives 𝓤 H A) (p .0 ∷ κ, (κ, tt)) (to n (p .1) g, tt) tt r))) ∷ raw (withheld 𝓤 H A W κ q n (p .0) (p .1)) ∷ []) ∵ updating ! $
       await ! tt $ pick ! (λ r. split ! $ move ! (1 ∷ []) $
-      use1 W (some (λ (zs : Signal × Unit {0}). ‵ (lasts resettingEnded (p .0 ∷ κ, (κ, tt)) (to n (p .1) g, tt) zs) ⊛ raw (fact 𝓤 (zs .0 ≡ g′)))) (id⊢ 𝓤 _) $ pick ! (λ zs. split ! $ move ! (1 ∷ []) $ heard ! (zs .0 ≡ g′) (λ e.
+      use1 W (some (λ (zs : Signal × Unit {0}). ‵ (lasts resettingEnded (p .0 ∷ κ, (κ, tt)) (to n (p .1) g, tt) zs) ⊛ raw (fact 𝓤 (zs .0 ≡ g′)))) (id⊢ 𝓤 _) $ pick ! (λ zs. split ! $ move ! (1 ∷ []) $
+      heard ! (zs .0 ≡ g′) (λ e.
       fsplit ! $ move ! (1 ∷ []) $ drop ! $ rewrite ! 0 (λ (f : Signal). ‵ (fres (p .1) (R κ .coded .code f))) e refl $
       move ! (1 ∷ []) $ split ! $ move ! (1 ∷ []) $ feqL ! (λ u. move ! (0 ∷ 2 ∷ 1 ∷ []) $
       use3 W (later (raw had)) (comes-back 𝓤 H A W κ q n (p .0) (p .1) g′) $ await ! tt $ at-once ! $ suffices ! _ (guardI 𝓤 (w ≡ vunit) had (ap only u)) $ done !))))

@@ -1,32 +1,20 @@
 -- What a sequence that ends in a reading hands out, and a setting of the port on what the calls before left. Definitions only.
-use mathlib.Core.List.{List}
 use lib.Ieee.{Float}
 use Rattle.answers.specs.declared.Measured.{Measured}
 use Rattle.laws.specs.Literals.{zero32}
 use Rattle.answers.specs.Numbers.{ifDone}
 use Rattle.signal.specs.declared.Answer.{Answer}
 use Rattle.signal.specs.declared.Metrics.{Metrics}
-use Rattle.signal.specs.State.{metricsOf, zeroFigures}
-use Rattle.signal.specs.Calls.{Left, left}
+use Rattle.signal.specs.State.{metricsOf, zeroMetrics}
+use Rattle.answers.specs.Left.{left}
+use Rattle.signal.specs.Calls.{SignalLeft}
 use Rattle.port.specs.Fields.{put, number, at-voltage}
 use Rattle.port.specs.Readings.{instantaneousPower}
 use Rattle.held.specs.Held.{swapped}
 use Rattle.sequences.specs.declared.MetricsAnswer.{MetricsAnswer}
 
--- what was read, and the samples
-pub record Told (A : Type 0) : Type 0 where
-  pub value : A
-  pub places : List Float
-
-abbrev pub told : {A : Type 0} → A → List Float → Told A
-told x xs = record { value = x; places = xs }
-
--- what a reading makes of what the calls before answered, and their samples
-abbrev pub partOf : {A : Type 0} → (Answer → A) → Left → Told A
-partOf part l = told (part (l .answer)) (l .places)
-
 -- the samples and all but the port's voltage stay; a setting of the port is not refused, and the outcome is that of the call before
-abbrev pub withVoltage : Float → Left → Left
+abbrev pub withVoltage : Float → SignalLeft → SignalLeft
 withVoltage v l = left (swapped (l .answer) (put (l .answer .state .port) at-voltage (number v))) (l .places)
 
 -- ---- what the last call says of the state, whether the calls before were refused or not
@@ -40,9 +28,6 @@ abbrev pub portPower : Answer → Float
 portPower a = instantaneousPower (a .state .port)
 
 -- ---- what the sequence answers: how its calls ended, and that; 01, "What a refusal returns is zero throughout"
-
-abbrev pub zeroMetrics : Metrics
-zeroMetrics = record { figures = zeroFigures; thd = zero32 }
 
 abbrev pub metricsTold : Answer → MetricsAnswer
 metricsTold a = record { outcome = a .outcome; metrics = ifDone (a .outcome) (metricsIn a) zeroMetrics }

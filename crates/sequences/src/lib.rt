@@ -4,9 +4,10 @@ mod parts;
 
 ghost use mathlib.Core.Path.{_≡_};
 ghost use mathlib.Core.List.{[], _∷_};
-ghost use Rattle.signal.specs.Calls.{left, highest, newOf, newPortOf};
+ghost use Rattle.answers.specs.Left.{left, answeredAs};
+ghost use Rattle.signal.specs.Calls.{highest, newOf, newPortOf};
 ghost use Rattle.signal.specs.Sequence as Sequence;
-ghost use Rattle.sequences.specs.Told.{told, partOf, withVoltage, metricsTold, powerTold};
+ghost use Rattle.sequences.specs.Told.{withVoltage, metricsTold, powerTold};
 use answers::Measured;
 use answers::Outcome;
 use generator::Wave;
@@ -63,7 +64,7 @@ pub fn measured(
     duty_cycle: f32,
     samples: &mut [f32],
 ) -> MetricsAnswer
-    ensures { λ r. ⌜ told r (now (samples .exit)) ≡ partOf metricsTold (Sequence.run highest (newOf highest wave amplitude frequency (now (samples .entry))) (Sequence.setting (Sequence.duty «duty_cycle») ∷ [])) ⌝ }
+    ensures { λ r. ⌜ left r (now (samples .exit)) ≡ answeredAs metricsTold (Sequence.run highest (newOf highest wave amplitude frequency (now (samples .entry))) (Sequence.setting (Sequence.duty «duty_cycle») ∷ [])) ⌝ }
 {
     let outcome = spectrum::parts::judged(samples.len(), false);
     let metrics = parts::metrics_after(wave, amplitude, frequency, duty_cycle, samples);
@@ -81,7 +82,7 @@ pub fn powered(
     next: f32,
     samples: &mut [f32],
 ) -> Measured
-    ensures { λ r. ⌜ told r (now (samples .exit)) ≡ partOf powerTold (withVoltage next (newPortOf highest voltage current frequency (now (samples .entry)))) ⌝ }
+    ensures { λ r. ⌜ left r (now (samples .exit)) ≡ answeredAs powerTold (withVoltage next (newPortOf highest voltage current frequency (now (samples .entry)))) ⌝ }
 {
     let ended = spectrum::parts::judged(samples.len(), false);
     let power = parts::power_after(voltage, current, frequency, next, samples);

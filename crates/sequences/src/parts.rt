@@ -2,10 +2,11 @@
 ghost use mathlib.Core.Path.{_≡_};
 ghost use mathlib.Core.List.{[], _∷_};
 ghost use Rattle.laws.specs.Literals.{zero32};
+ghost use Rattle.answers.specs.Left.{left, answeredAs};
 ghost use Rattle.answers.specs.Numbers.{ifDone};
 ghost use Rattle.signal.specs.Calls.{highest, newOf, newPortOf};
 ghost use Rattle.signal.specs.Sequence as Sequence;
-ghost use Rattle.sequences.specs.Told.{told, partOf, withVoltage, metricsIn, portPower};
+ghost use Rattle.sequences.specs.Told.{withVoltage, metricsIn, portPower};
 use answers::Outcome;
 use generator::Wave;
 use held::Signal;
@@ -20,7 +21,7 @@ pub fn metrics_after(
     duty_cycle: f32,
     samples: &mut [f32],
 ) -> Metrics
-    ensures { λ r. ⌜ told r (now (samples .exit)) ≡ partOf metricsIn (Sequence.run highest (newOf highest wave amplitude frequency (now (samples .entry))) (Sequence.setting (Sequence.duty «duty_cycle») ∷ [])) ⌝ }
+    ensures { λ r. ⌜ left r (now (samples .exit)) ≡ answeredAs metricsIn (Sequence.run highest (newOf highest wave amplitude frequency (now (samples .entry))) (Sequence.setting (Sequence.duty «duty_cycle») ∷ [])) ⌝ }
 {
     let mut signal = Signal::new(wave, amplitude, frequency, samples);
     signal.set_duty_cycle(duty_cycle);
@@ -35,7 +36,7 @@ pub fn power_after(
     next: f32,
     samples: &mut [f32],
 ) -> f32
-    ensures { λ r. ⌜ told r (now (samples .exit)) ≡ partOf portPower (withVoltage next (newPortOf highest voltage current frequency (now (samples .entry)))) ⌝ }
+    ensures { λ r. ⌜ left r (now (samples .exit)) ≡ answeredAs portPower (withVoltage next (newPortOf highest voltage current frequency (now (samples .entry)))) ⌝ }
 {
     let mut signal = Signal::new_power_port(voltage, current, frequency, samples);
     signal.set_voltage(next);

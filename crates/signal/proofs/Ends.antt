@@ -1,13 +1,15 @@
 -- How a call over a refused or a taken length ends. Assumes nothing.
 use mathlib.Core.Path.{_≡_, sym, _∙_}
-use mathlib.Core.Bool.{false}
+use mathlib.Core.Bool.{Bool, false, not}
 use mathlib.Core.List.{List}
 use Prim.Native.Nat.{ℕ}
 use lib.ListN.{length}
 use lib.Ieee.{Float}
 use Rattle.laws.specs.Literals.{zero32}
 use Rattle.answers.specs.declared.Outcome.{Outcome}
-use Rattle.answers.specs.Numbers.{numberOf, ifDone}
+use Rattle.answers.specs.declared.Outcome.the-variants.{Done, OutputShort, TooLong, OffGrid}
+use Rattle.answers.specs.Left.{left}
+use Rattle.answers.specs.Numbers.{numberOf, ifDone, refuse}
 use Rattle.answers.proofs.Ended.{if-refused, if-done}
 use Rattle.generator.specs.declared.Wave.the-variants.{DC}
 use Rattle.port.specs.declared.Reading.{Reading}
@@ -15,9 +17,13 @@ use Rattle.spectrum.specs.Spectrum.{outcomeOf}
 use Rattle.signal.specs.declared.State.{State}
 use Rattle.signal.specs.declared.Answer.{Answer}
 use Rattle.signal.specs.State.{asPort}
-use Rattle.signal.specs.Calls.{Left, left, answer, unlessRefused, newOf, newPortOf}
+use Rattle.signal.specs.Calls.{SignalLeft, answer, unlessRefused, newOf, newPortOf}
 
-module _ (s : State) (xs : List Float) (done : Left) (o : Outcome) (d : ℕ) (ended : o ≡ outcomeOf (length xs) false) (number : d ≡ numberOf o) where
+-- the refusals of samples that are generated and measured, from what is found of their number
+abbrev pub chain : Bool → Bool → Outcome
+chain long grid = refuse long TooLong (refuse (not grid) OffGrid (refuse false OutputShort Done))
+
+module _ (s : State) (xs : List Float) (done : SignalLeft) (o : Outcome) (d : ℕ) (ended : o ≡ outcomeOf (length xs) false) (number : d ≡ numberOf o) where
   judged-by : unlessRefused s xs done ≡ ifDone o done (left (answer o s) xs)
   unfolding unlessRefused
   judged-by = rw ended
@@ -31,7 +37,7 @@ module _ (s : State) (xs : List Float) (done : Left) (o : Outcome) (d : ℕ) (en
 -- ---- a port: `new` left a and ys
 
 module _ (top : ℕ) (v c : Float) (f : Reading) (xs ys : List Float) (a : Answer) (d : ℕ) (number : d ≡ numberOf (a .outcome)) (h : left a ys ≡ newOf top DC v zero32 xs) where
-  abbrev done : Left
+  abbrev done : SignalLeft
   done = left (answer (a .outcome) (asPort (a .state) v c f)) ys
 
   over-new : newPortOf top v c f xs ≡ ifDone (a .outcome) done (left a ys)

@@ -22,7 +22,7 @@ use Rattle.figures.specs.Levels.{sumOf, averageOf, dcRmsOf}
 use Rattle.figures.specs.Figures.{figuresOf, answerOf}
 use Rattle.distortion.specs.Thd.{fundamentalBin, usable, thdFrom, thdAt, thdOf}
 use Rattle.signal.specs.State.{fresh, withPhase, clamped, withDuty, voltageOf, levelled, withMeasured, silenced}
-use Rattle.signal.specs.Calls.{Left, highest, newOf, unlessRefused, made, remade, resetOf}
+use Rattle.signal.specs.Calls.{SignalLeft, highest, newOf, unlessRefused, made, remade, resetOf}
 use Rattle.signal.specs.Sequence.{phase, duty, Later, setting, reset, next}
 
 abbrev b : ℕ → Float
@@ -37,18 +37,18 @@ pub record Seen : Type 0 where
   pub voltage : Float
   pub thd : Float
 
-abbrev seen : Left → Seen
+abbrev seen : SignalLeft → Seen
 seen l = record {
   samples = l .places;
   phase = l .answer .state .shape .phase;
   duty = l .answer .state .shape .«duty_cycle»;
-  average = l .answer .state .figures .average;
+  average = l .answer .state .metrics .figures .average;
   voltage = l .answer .state .port .voltage;
-  thd = l .answer .state .thd;
+  thd = l .answer .state .metrics .thd;
 }
 
 -- the first call and each later one
-abbrev pub each : Left → List Later → List Seen
+abbrev pub each : SignalLeft → List Later → List Seen
 each l [] = seen l ∷ []
 each l (c ∷ cs) = seen l ∷ each (next highest l c) cs
 
@@ -60,17 +60,32 @@ pub sawtooth : each (newOf highest Sawtooth (b 0x40000000) (b 0x3F800000) (b 7 �
     ∷ record { samples = b 0xBF800000 ∷ b 0 ∷ b 0x3F800000 ∷ b 0xC0000000 ∷ []; phase = b 0x42B40000; duty = b 0x3E800000; average = b 0xBF000000; voltage = b 0x3F9CC471; thd = b 0 }
     ∷ record { samples = b 0 ∷ b 0 ∷ b 0 ∷ b 0 ∷ []; phase = b 0x42B40000; duty = b 0x3E800000; average = b 0; voltage = b 0; thd = b 0 }
     ∷ []
-unfolding remade unlessRefused outcomeOf ifDone made resetOf generated sampleAt periodSeconds shift tMod sawtoothAt filled onGrid lengths fresh withPhase clamped withDuty voltageOf levelled withMeasured silenced over totalOf narrowedMean sumOf averageOf dcRmsOf figuresOf answerOf fundamentalBin usable squareOf harmonicsOf harmonicPower lastUpTo thdFrom thdAt thdOf magnitudeOf sizeOf sumsOf sumsTo turned angleOf stepOf sineOf cosineOf quadrant fraction quarterTable narrowedRoot narrow root wholeRoot rootIn roundAway add sub mul div rem neg lt le sum round units odd size span climb trailingZeros ofInt ofBits ofFields toUnsigned
+unfolding remade unlessRefused outcomeOf ifDone made resetOf generated sampleAt periodSeconds shift tMod sawtoothAt filled onGrid lengths fresh
+    withPhase clamped withDuty voltageOf levelled withMeasured silenced over totalOf narrowedMean sumOf averageOf dcRmsOf figuresOf answerOf
+    fundamentalBin usable squareOf harmonicsOf harmonicPower lastUpTo thdFrom thdAt thdOf magnitudeOf sizeOf sumsOf sumsTo turned angleOf stepOf
+    sineOf cosineOf quadrant fraction quarterTable narrowedRoot narrow root wholeRoot rootIn roundAway add sub mul div rem neg lt le sum round units
+    odd size span climb trailingZeros ofInt ofBits ofFields toUnsigned
 sawtooth = refl
 
 -- PWM of amplitude 2 and frequency 1 over 8 samples: THD follows the duty cycle; a NaN duty cycle is 0, silence keeps THD, and a reset clears it
 pub pulses : each (newOf highest PWM (b 0x40000000) (b 0x3F800000) (b 7 ∷ b 7 ∷ b 7 ∷ b 7 ∷ b 7 ∷ b 7 ∷ b 7 ∷ b 7 ∷ [])) (setting (duty (b 0x3E800000)) ∷ setting (duty nan) ∷ reset ∷ [])
-    ≡ record { samples = b 0x40000000 ∷ b 0x40000000 ∷ b 0x40000000 ∷ b 0x40000000 ∷ b 0 ∷ b 0 ∷ b 0 ∷ b 0 ∷ []; phase = b 0; duty = b 0x3F000000; average = b 0x3F800000; voltage = b 0x3FB504F3; thd = b 0x4225AF77 }
+    ≡ record {
+      samples = b 0x40000000 ∷ b 0x40000000 ∷ b 0x40000000 ∷ b 0x40000000 ∷ b 0 ∷ b 0 ∷ b 0 ∷ b 0 ∷ [];
+      phase = b 0;
+      duty = b 0x3F000000;
+      average = b 0x3F800000;
+      voltage = b 0x3FB504F3;
+      thd = b 0x4225AF77;
+    }
     ∷ record { samples = b 0x40000000 ∷ b 0x40000000 ∷ b 0 ∷ b 0 ∷ b 0 ∷ b 0 ∷ b 0 ∷ b 0 ∷ []; phase = b 0; duty = b 0x3E800000; average = b 0x3F000000; voltage = b 0x3F800000; thd = b 0x42AE0D83 }
     ∷ record { samples = b 0 ∷ b 0 ∷ b 0 ∷ b 0 ∷ b 0 ∷ b 0 ∷ b 0 ∷ b 0 ∷ []; phase = b 0; duty = b 0; average = b 0; voltage = b 0; thd = b 0x42AE0D83 }
     ∷ record { samples = b 0 ∷ b 0 ∷ b 0 ∷ b 0 ∷ b 0 ∷ b 0 ∷ b 0 ∷ b 0 ∷ []; phase = b 0; duty = b 0; average = b 0; voltage = b 0; thd = b 0 }
     ∷ []
-unfolding remade unlessRefused outcomeOf ifDone made resetOf generated sampleAt samplesPerPeriod pwmAt filled onGrid lengths fresh withPhase clamped withDuty voltageOf levelled withMeasured silenced over totalOf narrowedMean sumOf averageOf dcRmsOf figuresOf answerOf fundamentalBin usable squareOf harmonicsOf harmonicPower lastUpTo thdFrom thdAt thdOf magnitudeOf sizeOf sumsOf sumsTo turned angleOf stepOf sineOf cosineOf quadrant fraction quarterTable narrowedRoot narrow root wholeRoot rootIn roundAway add sub mul div rem neg lt le sum round units odd size span climb trailingZeros ofInt ofBits ofFields toUnsigned
+unfolding remade unlessRefused outcomeOf ifDone made resetOf generated sampleAt samplesPerPeriod pwmAt filled onGrid lengths fresh withPhase clamped
+    withDuty voltageOf levelled withMeasured silenced over totalOf narrowedMean sumOf averageOf dcRmsOf figuresOf answerOf fundamentalBin usable
+    squareOf harmonicsOf harmonicPower lastUpTo thdFrom thdAt thdOf magnitudeOf sizeOf sumsOf sumsTo turned angleOf stepOf sineOf cosineOf quadrant
+    fraction quarterTable narrowedRoot narrow root wholeRoot rootIn roundAway add sub mul div rem neg lt le sum round units odd size span climb
+    trailingZeros ofInt ofBits ofFields toUnsigned
 pulses = refl
 
 -- ---- order 16 counts, and order 17 doesn't

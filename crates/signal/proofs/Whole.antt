@@ -7,6 +7,7 @@ use Rattle.laws.specs.Literals.{zero32, one32}
 use Rattle.number.specs.Number.{abs}
 use Rattle.answers.specs.declared.Outcome.{Outcome}
 use Rattle.answers.specs.declared.Outcome.the-variants.{Done}
+use Rattle.answers.specs.Left.{left}
 use Rattle.answers.specs.Written.{Written, written}
 use Rattle.generator.specs.Sample.{generated}
 use Rattle.port.specs.declared.Port.{Port}
@@ -18,12 +19,12 @@ use Rattle.figures.specs.Figures.{answerOf}
 use Rattle.distortion.specs.Thd.{thdOf}
 use Rattle.signal.specs.declared.State.{State}
 use Rattle.signal.specs.State.{voltageOf, levelled, withMeasured, asPort}
-use Rattle.signal.specs.Calls.{Left, left, answer, made, remade}
+use Rattle.signal.specs.Calls.{SignalLeft, answer, made, remade}
 
 pub measured-whole : (top : ℕ) (s : State) (xs : List Float) (a : TimeAnswer) (thd v : Float) (p : Port)
-    → a ≡ answerOf (s .shape .wave) (s .shape .amplitude) (s .shape .frequency) (s .figures) xs → thd ≡ thdOf top (s .shape .frequency) (s .thd) xs
+    → a ≡ answerOf (s .shape .wave) (s .shape .amplitude) (s .shape .frequency) (s .metrics .figures) xs → thd ≡ thdOf top (s .shape .frequency) (s .metrics .thd) xs
     → v ≡ voltageOf (s .shape .wave) (a .figures) → p ≡ levelled (s .port) v (a .figures .«crest_factor») thd
-    → _≡_ {A = State} (record { shape = s .shape; port = p; figures = a .figures; thd = thd }) (withMeasured top s xs)
+    → _≡_ {A = State} (record { shape = s .shape; port = p; metrics = record { figures = a .figures; thd = thd } }) (withMeasured top s xs)
 unfolding withMeasured
 measured-whole top s xs a thd v p ea et ev ep = rw (ep, ev, et, ea)
 
@@ -31,7 +32,7 @@ pub made-whole : (top : ℕ) (s r : State) (xs ys : List Float) (o : Outcome) �
 unfolding made
 made-whole top s r xs ys o g e = let p : ys ≡ generated (s .shape) xs .places = ap (λ (w : Written Float). w .places) g in rw (e, p)
 
-pub remade-same : (top : ℕ) (e e′ n n′ : State) (xs : List Float) (l : Left) → e ≡ e′ → n ≡ n′ → l ≡ remade top e n xs → l ≡ remade top e′ n′ xs
+pub remade-same : (top : ℕ) (e e′ n n′ : State) (xs : List Float) (l : SignalLeft) → e ≡ e′ → n ≡ n′ → l ≡ remade top e n xs → l ≡ remade top e′ n′ xs
 remade-same top e e′ n n′ xs l p q h = rw (← p, ← q) h
 
 pub port-whole : (s : State) (voltage current : Float) (frequency : Reading) (apparent : Float) (p1 p2 p3 p4 p5 p6 p7 p8 : Port)
@@ -39,6 +40,6 @@ pub port-whole : (s : State) (voltage current : Float) (frequency : Reading) (ap
     → p1 ≡ put (s .port) at-voltage (number voltage) → p2 ≡ put p1 at-current (number current) → p3 ≡ put p2 at-frequency (reading frequency)
     → p4 ≡ put p3 at-phase-angle (reading (Number zero32)) → p5 ≡ put p4 at-active-power (number (mul binary32 voltage current))
     → p6 ≡ put p5 at-apparent-power (reading (Number apparent)) → p7 ≡ put p6 at-power-factor (reading (Number one32)) → p8 ≡ put p7 at-displacement-pf (reading (Number one32))
-    → _≡_ {A = State} (record { shape = s .shape; port = p8; figures = s .figures; thd = s .thd }) (asPort s voltage current frequency)
+    → _≡_ {A = State} (record { shape = s .shape; port = p8; metrics = s .metrics }) (asPort s voltage current frequency)
 unfolding asPort
 port-whole s voltage current frequency apparent p1 p2 p3 p4 p5 p6 p7 p8 ea e1 e2 e3 e4 e5 e6 e7 e8 = rw (e8, e7, e6, e5, e4, e3, e2, e1, ea)

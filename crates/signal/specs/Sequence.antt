@@ -16,9 +16,10 @@ use Rattle.port.specs.declared.Port.{Port}
 use Rattle.port.specs.declared.Reading.the-variants.{Number}
 use Rattle.port.specs.Fields.{cells, cellAt, at-voltage, at-voltage-thd, at-voltage-crest-factor}
 use Rattle.figures.specs.declared.TimeFigures.{TimeFigures}
+use Rattle.figures.specs.Figures.{zeroFigures}
 use Rattle.signal.specs.declared.State.{State}
-use Rattle.signal.specs.State.{clamped, zeroFigures, voltageOf}
-use Rattle.signal.specs.Calls.{Left, phaseSet, dutySet, resetOf}
+use Rattle.signal.specs.State.{clamped, voltageOf}
+use Rattle.signal.specs.Calls.{SignalLeft, phaseSet, dutySet, resetOf}
 
 -- `set_phase` and `set_duty_cycle`
 pub data Setting : Type 0 where
@@ -31,13 +32,13 @@ pub data Later : Type 0 where
   reset : Later
 
 -- one of them, on what is left before it
-abbrev pub next : ℕ → Left → Later → Left
+abbrev pub next : ℕ → SignalLeft → Later → SignalLeft
 next top l (setting (phase p)) = phaseSet top (l .answer .state) p (l .places)
 next top l (setting (duty d)) = dutySet top (l .answer .state) d (l .places)
 next top l reset = resetOf (l .answer .state) (l .places)
 
 -- all of them, "call by call"
-abbrev pub run : ℕ → Left → List Later → Left
+abbrev pub run : ℕ → SignalLeft → List Later → SignalLeft
 run top l [] = l
 run top l (c ∷ cs) = run top (next top l c) cs
 
@@ -68,7 +69,7 @@ pub record Shows (shape : Shape) (figures : TimeFigures) (thd : Float) (p : Port
 
 -- those that the state itself has (`readings-new`, `readings-follow`)
 abbrev pub ShowsOwn : State → Type 0
-ShowsOwn s = Shows (s .shape) (s .figures) (s .thd) (s .port)
+ShowsOwn s = Shows (s .shape) (s .metrics .figures) (s .metrics .thd) (s .port)
 
 -- the other 23 fields of the port are as they were (`others-stay`)
 abbrev pub OthersStay : Port → Port → Type 0
@@ -78,13 +79,13 @@ OthersStay before after =
 -- what a reset leaves in the state: this shape, and zero in all that is measured and in the readings that follow it (`reset-state`)
 pub record Quiet (shape : Shape) (s : State) : Type 0 where
   pub kept : s .shape ≡ shape
-  pub figures : s .figures ≡ zeroFigures
-  pub thd : s .thd ≡ zero32
+  pub figures : s .metrics .figures ≡ zeroFigures
+  pub thd : s .metrics .thd ≡ zero32
   pub level : s .port .voltage ≡ zero32
   pub crest : s .port .«voltage_crest_factor» .reading ≡ Number zero32
   pub distortion : s .port .«voltage_thd» .reading ≡ Number zero32
 
 -- 01, "Nothing but 0 writes to what was lent", and "a signal state .. handed in comes back unchanged" (`refused-run`)
-pub record Unmoved (before after : Left) : Type 0 where
+pub record Unmoved (before after : SignalLeft) : Type 0 where
   pub state : after .answer .state ≡ before .answer .state
   pub samples : after .places ≡ before .places

@@ -12,45 +12,26 @@ use Rattle.generator.specs.Sample.{shapeOf, half}
 use Rattle.port.specs.declared.Port.{Port}
 use Rattle.port.specs.declared.Reading.{Reading}
 use Rattle.port.specs.declared.Reading.the-variants.{Number, Absent}
-use Rattle.port.specs.Fields.{put, SetTo, setTo, puts, number, reading, flag, at-voltage, at-current, at-frequency, at-phase-angle, at-active-power, at-apparent-power, at-power-factor, at-displacement-pf, at-voltage-thd, at-voltage-crest-factor, at-is-enabled}
+use Rattle.port.specs.Fields.{put, SetTo, setTo, puts, number, reading, flag}
+use Rattle.port.specs.Fields.{at-voltage, at-current, at-frequency, at-phase-angle, at-active-power, at-apparent-power, at-power-factor, at-displacement-pf}
+use Rattle.port.specs.Fields.{at-voltage-thd, at-voltage-crest-factor, at-is-enabled}
 use Rattle.port.specs.Readings.{cleared}
 use Rattle.figures.specs.declared.TimeFigures.{TimeFigures}
-use Rattle.figures.specs.Figures.{answerOf}
+use Rattle.figures.specs.Figures.{zeroFigures, answerOf}
 use Rattle.distortion.specs.Thd.{thdOf}
 use Rattle.signal.specs.declared.State.{State}
 use Rattle.signal.specs.declared.Metrics.{Metrics}
 
--- the 19 figures before anything is measured, and after a reset: the Rust's `new` and `reset_waveform` set each to 0.0
-abbrev pub zeroFigures : TimeFigures
-zeroFigures = record {
-  «peak_to_peak» = zero32;
-  max = zero32;
-  min = zero32;
-  «positive_peak» = zero32;
-  «negative_peak» = zero32;
-  average = zero32;
-  «dc_rms» = zero32;
-  «ac_rms» = zero32;
-  «duty_cycle_pos» = zero32;
-  «duty_cycle_neg» = zero32;
-  «rise_time» = zero32;
-  «fall_time» = zero32;
-  «crest_factor» = zero32;
-  frequency = zero32;
-  period = zero32;
-  «form_factor» = zero32;
-  overshoot = zero32;
-  undershoot = zero32;
-  «slew_rate» = zero32;
-}
+-- nothing is measured yet, or no more
+abbrev pub zeroMetrics : Metrics
+zeroMetrics = record { figures = zeroFigures; thd = zero32 }
 
 -- 01, "What a refusal returns is zero throughout (a reading absent, a flag false, the wave `DC`)"
 abbrev pub zeroState : State
 zeroState = record {
   shape = shapeOf DC zero32 zero32 zero32 zero32;
   port = put cleared at-is-enabled (flag false);
-  figures = zeroFigures;
-  thd = zero32;
+  metrics = zeroMetrics;
 }
 
 -- ---- the Rust's `new`, before anything is generated
@@ -72,14 +53,13 @@ unfoldable pub fresh : Wave → Float → Float → State
 fresh wave amplitude frequency = record {
   shape = shapeOf wave amplitude zero32 frequency half;
   port = put cleared at-frequency (reading (frequencyReading wave frequency));
-  figures = zeroFigures;
-  thd = zero32;
+  metrics = zeroMetrics;
 }
 
 -- ---- settings of the shape
 
 abbrev pub withShape : State → Shape → State
-withShape s shape = record { shape = shape; port = s .port; figures = s .figures; thd = s .thd }
+withShape s shape = record { shape = shape; port = s .port; metrics = s .metrics }
 
 unfoldable pub withPhase : State → Float → State
 withPhase s phase = withShape s (shapeOf (s .shape .wave) (s .shape .amplitude) phase (s .shape .frequency) (s .shape .«duty_cycle»))
@@ -111,13 +91,14 @@ levelled p voltage crest thd = puts p (levelRows voltage crest thd)
 -- 01, item 10: "with the THD of step 10 of `calculate_metrics`", of orders up to `top`
 unfoldable pub withMeasured : ℕ → State → List Float → State
 withMeasured top s xs =
-    let figures = answerOf (s .shape .wave) (s .shape .amplitude) (s .shape .frequency) (s .figures) xs .figures in
-    let thd = thdOf top (s .shape .frequency) (s .thd) xs in
-    record { shape = s .shape; port = levelled (s .port) (voltageOf (s .shape .wave) figures) (figures .«crest_factor») thd; figures = figures; thd = thd }
+    let figures = answerOf (s .shape .wave) (s .shape .amplitude) (s .shape .frequency) (s .metrics .figures) xs .figures in
+    let thd = thdOf top (s .shape .frequency) (s .metrics .thd) xs in
+    let port = levelled (s .port) (voltageOf (s .shape .wave) figures) (figures .«crest_factor») thd in
+    record { shape = s .shape; port = port; metrics = record { figures = figures; thd = thd } }
 
 -- the Rust's `reset_waveform`: all that is measured is zero
 unfoldable pub silenced : State → State
-silenced s = record { shape = s .shape; port = levelled (s .port) zero32 zero32 zero32; figures = zeroFigures; thd = zero32 }
+silenced s = record { shape = s .shape; port = levelled (s .port) zero32 zero32 zero32; metrics = zeroMetrics }
 
 -- ---- 01, item 10, `new_power_port`: the readings that it sets on a signal that `new` made, in the Rust's order
 
@@ -146,10 +127,9 @@ unfoldable pub asPort : State → Float → Float → Reading → State
 asPort s voltage current frequency = record {
   shape = s .shape;
   port = puts (s .port) (portRows voltage current frequency);
-  figures = s .figures;
-  thd = s .thd;
+  metrics = s .metrics;
 }
 
 -- 01, "`get_metrics` gives the 19 figures and THD"
 abbrev pub metricsOf : State → Metrics
-metricsOf s = record { figures = s .figures; thd = s .thd }
+metricsOf s = s .metrics

@@ -2,8 +2,9 @@
 mod parts;
 
 ghost use mathlib.Core.Path.{_≡_};
+ghost use Rattle.answers.specs.Left.{left};
 ghost use Rattle.signal.specs.State.{metricsOf};
-ghost use Rattle.signal.specs.Calls.{left, highest, newOf, newPortOf, phaseSet, dutySet, resetOf};
+ghost use Rattle.signal.specs.Calls.{highest, newOf, newPortOf, phaseSet, dutySet, resetOf};
 use answers::Outcome;
 use figures::TimeFigures;
 use generator::Shape;
@@ -11,24 +12,23 @@ use generator::Wave;
 use port::Port;
 use port::Reading;
 
+// What is measured of a signal: the 19 figures and THD.
+pub struct Metrics {
+    pub figures: TimeFigures,
+    pub thd: f32,
+}
+
 // What a signal keeps, its samples apart.
 pub struct State {
     pub shape: Shape,
     pub port: Port,
-    pub figures: TimeFigures,
-    pub thd: f32,
+    pub metrics: Metrics,
 }
 
 // How a call ended, and the state.
 pub struct Answer {
     pub outcome: Outcome,
     pub state: State,
-}
-
-// The 19 figures and THD.
-pub struct Metrics {
-    pub figures: TimeFigures,
-    pub thd: f32,
 }
 
 // A signal of a wave: the samples are generated and measured.
@@ -95,9 +95,5 @@ pub fn reset_waveform(state: State, samples: &mut [f32]) -> Answer
 pub fn get_metrics(state: State) -> Metrics
     ensures { λ r. ⌜ r ≡ metricsOf state ⌝ }
 {
-    let figures = state.figures;
-    Metrics {
-        figures: figures,
-        thd: state.thd,
-    }
+    state.metrics
 }

@@ -3,15 +3,18 @@ ghost use mathlib.Core.Path.{_≡_};
 ghost use mathlib.Core.Bool.{true};
 ghost use Prim.Native.Nat.{ℕ};
 ghost use lib.ListN.{length};
+ghost use Rattle.answers.specs.Left.{left};
 ghost use Rattle.laws.specs.Filled.{filled};
 ghost use Rattle.laws.specs.Literals.{zero32};
 ghost use Rattle.spectrum.specs.Grid.{onGrid};
 ghost use Rattle.signal.specs.State as S;
-ghost use Rattle.signal.specs.Calls.{left, answer, highest, made, remade};
+ghost use Rattle.signal.specs.Calls.{answer, highest, made, remade};
 use crate::Answer;
+use crate::Metrics;
 use crate::State;
 use answers::Outcome;
 use figures::TimeFigures;
+use figures::ZERO_FIGURES;
 use generator::Shape;
 use generator::Wave;
 use port::Port;
@@ -20,26 +23,9 @@ use port::Reading;
 // The highest order of THD.
 const HIGHEST: usize = 16;
 
-const ZERO_FIGURES: TimeFigures = TimeFigures {
-    peak_to_peak: 0.0,
-    max: 0.0,
-    min: 0.0,
-    positive_peak: 0.0,
-    negative_peak: 0.0,
-    average: 0.0,
-    dc_rms: 0.0,
-    ac_rms: 0.0,
-    duty_cycle_pos: 0.0,
-    duty_cycle_neg: 0.0,
-    rise_time: 0.0,
-    fall_time: 0.0,
-    crest_factor: 0.0,
-    frequency: 0.0,
-    period: 0.0,
-    form_factor: 0.0,
-    overshoot: 0.0,
-    undershoot: 0.0,
-    slew_rate: 0.0,
+const ZERO_METRICS: Metrics = Metrics {
+    figures: ZERO_FIGURES,
+    thd: 0.0,
 };
 
 // What a refused `new` answers.
@@ -55,12 +41,10 @@ pub fn zero_state() -> State
         frequency: 0.0,
         duty_cycle: 0.0,
     };
-    let figures = ZERO_FIGURES;
     State {
         shape: shape,
         port: port,
-        figures: figures,
-        thd: 0.0,
+        metrics: ZERO_METRICS,
     }
 }
 
@@ -89,12 +73,10 @@ pub fn fresh(wave: Wave, amplitude: f32, frequency: f32) -> State
         frequency: frequency,
         duty_cycle: 0.5,
     };
-    let figures = ZERO_FIGURES;
     State {
         shape: shape,
         port: port,
-        figures: figures,
-        thd: 0.0,
+        metrics: ZERO_METRICS,
     }
 }
 
@@ -159,7 +141,8 @@ fn measure(state: State, samples: &[f32]) -> State
 {
     let shape = state.shape;
     let wave = shape.wave;
-    let earlier = state.figures;
+    let before = state.metrics;
+    let earlier = before.figures;
     let answer = figures::calculate_time_figures(
         wave,
         shape.amplitude,
@@ -168,14 +151,17 @@ fn measure(state: State, samples: &[f32]) -> State
         samples,
     );
     let figures = answer.figures;
-    let thd = distortion::parts::thd(samples, shape.frequency, HIGHEST, state.thd);
+    let thd = distortion::parts::thd(samples, shape.frequency, HIGHEST, before.thd);
     let port = state.port;
     let next = levelled(port, voltage_of(wave, figures), figures.crest_factor, thd);
+    let metrics = Metrics {
+        figures: figures,
+        thd: thd,
+    };
     State {
         shape: shape,
         port: next,
-        figures: figures,
-        thd: thd,
+        metrics: metrics,
     }
 }
 
@@ -233,12 +219,10 @@ pub fn silenced(state: State) -> State
     let port = state.port;
     let next = levelled(port, 0.0, 0.0, 0.0);
     let shape = state.shape;
-    let figures = ZERO_FIGURES;
     State {
         shape: shape,
         port: next,
-        figures: figures,
-        thd: 0.0,
+        metrics: ZERO_METRICS,
     }
 }
 

@@ -17,7 +17,8 @@ same-length c = search needs
 returns : tie.Need-returns
 returns c =
     let args = c .before .before .before .before .before .before .args in
-    measured-told (args .wave) (args .amplitude) (args .frequency) (args .duty-cycle) (now (args .samples)) _ (c .before .before .before .before .judged .ensures) _ _ (c .before .before .metrics-after .ensures)
+    measured-told (args .wave) (args .amplitude) (args .frequency) (args .duty-cycle) (now (args .samples)) _ (c .before .before .before .before .judged .ensures) _ _
+    (c .before .before .metrics-after .ensures)
 
 pub measured-spec : {M : Type 1} → statement M
 measured-spec = tie.close (tie.spec judged-requires metrics-after-requires same-length returns)

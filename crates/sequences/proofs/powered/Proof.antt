@@ -20,7 +20,8 @@ same-length c = search needs
 returns : tie.Need-returns
 returns c =
     let args = c .before .before .before .before .before .before .before .args in
-    powered-told (args .voltage) (args .current) (args .frequency) (args .next) (now (args .samples)) _ _ _ _ (c .before .before .before .before .before .judged .ensures) (c .before .before .before .power-after .ensures) (c .unless-refused .ensures)
+    powered-told (args .voltage) (args .current) (args .frequency) (args .next) (now (args .samples)) _ _ _ _ (c .before .before .before .before .before .judged .ensures)
+    (c .before .before .before .power-after .ensures) (c .unless-refused .ensures)
 
 pub powered-spec : {M : Type 1} → statement M
 powered-spec = tie.close (tie.spec judged-requires power-after-requires unless-refused-requires same-length returns)

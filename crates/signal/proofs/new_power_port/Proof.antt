@@ -21,10 +21,15 @@ same-length-2 : tie.Need-same-length-2
 same-length-2 c = search needs
 
 returns : tie.Need-returns
-returns c = port-refused _ _ _ _ (now (c .before .before .before .before .before .before .before .args .samples)) _ (c .before .before .before .before .new .result) _ (c .before .number-of .ensures) (c .before .before .before .before .new .ensures) (c .if1 .taken)
+returns c =
+    let made = c .before .before .before .before in
+    port-refused _ _ _ _ (now (made .before .before .before .args .samples)) _ (made .new .result) _ (c .before .number-of .ensures) (made .new .ensures) (c .if1 .taken)
 
 returns-2 : tie.Need-returns-2
-returns-2 c = port-done _ _ _ _ (now (c .before .before .before .before .before .before .before .before .before .args .samples)) _ (c .before .before .before .before .before .before .new .result) _ (c .before .before .before .number-of .ensures) (c .before .before .before .before .before .before .new .ensures) _ (c .before .before .if1 .left) (c .as-port .ensures)
+returns-2 c =
+    let made = c .before .before .before .before .before .before in
+    port-done _ _ _ _ (now (made .before .before .before .args .samples)) _ (made .new .result) _ (c .before .before .before .number-of .ensures) (made .new .ensures) _
+    (c .before .before .if1 .left) (c .as-port .ensures)
 
 pub new-power-port-spec : {M : Type 1} → statement M
 new-power-port-spec =

@@ -1,6 +1,6 @@
 -- `signal::reset_waveform` meets its contract: a refusal writes nothing, and where none holds samples and state are cleared. Assumes nothing.
 use borrow.Author.Needs.{needs}
-use mathlib.Core.Path.{sym, _∙_}
+use mathlib.Core.Path.{sym}
 use Rattle.signal.specs.Calls.{resetOf}
 use Rattle.signal.proofs.Ends.{refused, taken}
 use Rattle.signal.proofs.reset_waveform.Statement.{statement}
@@ -27,7 +27,10 @@ returns c = refused _ _ _ _ _ (c .before .before .judged .ensures) (c .before .n
 
 returns-2 : tie.Need-returns-2
 unfolding resetOf
-returns-2 c = rw (c .silenced .ensures, c .before .before .before .clear .ensures) (sym (taken _ _ _ _ _ (c .before .before .before .before .before .before .before .judged .ensures) (c .before .before .before .before .before .before .number-of .ensures) (c .before .before .before .before .before .if1 .left)))
+returns-2 c =
+    let at-if = c .before .before .before .before .before in
+    rw (c .silenced .ensures, c .before .before .before .clear .ensures)
+    (sym (taken _ _ _ _ _ (at-if .before .before .judged .ensures) (at-if .before .number-of .ensures) (at-if .if1 .left)))
 
 pub reset-waveform-spec : {M : Type 1} → statement M
 reset-waveform-spec =

@@ -12,7 +12,7 @@ port-out-requires c κs = search needs
 
 returns : tie.Need-returns
 unfolding stateOut
-returns c = rw (c .before .port-out .ensures, c .before .before .before .wave-number .ensures)
+returns c = rw (c .before .before .port-out .ensures, c .before .before .before .before .wave-number .ensures)
 
 pub state-out-spec : {M : Type 1} → statement M
 state-out-spec = tie.close (tie.spec wave-number-requires port-out-requires returns)

@@ -9,7 +9,8 @@ use Rattle.port.specs.declared.Reading.{Reading}
 use Rattle.port.specs.Readings.{placeOf}
 use Rattle.port.proofs.Port.current_harmonic.Symbol as in-def
 use Rattle.port.proofs.Port.current_harmonic.Met as in-thm
-use Rattle.held.proofs.ByValue.{small, small-laws, reading, reading-laws}
+use Rattle.laws.proofs.ByValue.{small, small-laws}
+use Rattle.held.proofs.ByValue.{reading, reading-laws}
 use Rattle.held.proofs.Inside.{the-port}
 use Rattle.held.proofs.ReadAt.{Callee, at-meets}
 use Rattle.held.proofs.Signal.current_harmonic.Key.{name}

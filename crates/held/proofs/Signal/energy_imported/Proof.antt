@@ -7,7 +7,7 @@ use lib.Ieee.{Float}
 use Rattle.port.specs.declared.Port.{Port}
 use Rattle.port.proofs.Port.energy_imported.Symbol as in-def
 use Rattle.port.proofs.Port.energy_imported.Met as in-thm
-use Rattle.held.proofs.ByValue.{wide, wide-laws}
+use Rattle.laws.proofs.ByValue.{wide, wide-laws}
 use Rattle.held.proofs.Inside.{the-port}
 use Rattle.held.proofs.Read.{Callee, read-meets}
 use Rattle.held.proofs.Signal.energy_imported.Key.{name}

@@ -49,7 +49,8 @@ use Rattle.held.proofs.Signal.get_samples.Code as code
 abbrev stayed : Stays (get-samples.ended .signature .params) (get-samples.ended .kept)
 stayed = (signal-spent, tt)
 
-module _ {M : Type 1} (𝓤 : URA M) (H : Heap 𝓤) (A : Atoms 𝓤) (W : Given 𝓤 H A) (mem : Memory → SProp 𝓤) (run : Routine → Fun 𝓤) (κ : Lft) (q : Share) (b o : ℕ) (γ : GName) (ys : List Float) (st : Answer) where
+module _ {M : Type 1} (𝓤 : URA M) (H : Heap 𝓤) (A : Atoms 𝓤) (W : Given 𝓤 H A) (mem : Memory → SProp 𝓤) (run : Routine → Fun 𝓤) (κ : Lft) (q : Share) (b o : ℕ) (γ : GName) (ys : List Float)
+    (st : Answer) where
   abbrev α : NamedLft
   α = record { mir = named 0; lft = κ }
 
@@ -85,7 +86,8 @@ module _ {M : Type 1} (𝓤 : URA M) (H : Heap 𝓤) (A : Atoms 𝓤) (W : Given
   exits is =
       qed W ((‵ (flft κ q) ⊛ ‵ ftrue) ∷ ‵ (owns (T.the-row α ∷ []) (h, tt) vals) ∷ []) ∵
       suffices ! _ (ends-at 𝓤 H A get-samples.ended stayed (get-samples.clauses 𝓤 H A mem run) W (((κ, tt), (q, tt), tt, (h, tt), vals), tt) s x ((tt, tt), tt) ((tt, (tt, tt)), tt)) $ says ! refl $
-      frame ! $ fsplit ! $ use1 W (given (mach ∷ [] ≡ mach ∷ []) (‵ (all-own (T.the-type α .parts) (T′.the-laws α) (x, (st, tt))))) (own-open 𝓤 H A W (T.the-type α) (T′.the-laws α) (x, (st, tt)) mach) $ learn ! (λ _. fsplit ! $
+      frame ! $ fsplit ! $ use1 W (given (mach ∷ [] ≡ mach ∷ []) (‵ (all-own (T.the-type α .parts) (T′.the-laws α) (x, (st, tt)))))
+      (own-open 𝓤 H A W (T.the-type α) (T′.the-laws α) (x, (st, tt)) mach) $ learn ! (λ _. fsplit ! $
       -- [what the borrow owns; what the answer owns; …]: the borrow is the result, and of the struct the answer is left
       move ! (1 ∷ []) $ drop ! $ move ! (1 ∷ []) $ drop ! $
       nothing ! $ owned ! N.the-row (Is N.the-row) (LL.makes N.the-type N′.the-plain 𝓤 H A) st _ is $ fjoin ! $ nothing ! $ fjoin ! $
@@ -93,12 +95,15 @@ module _ {M : Type 1} (𝓤 : URA M) (H : Heap 𝓤) (A : Atoms 𝓤) (W : Given
       nothing ! $ move ! (1 ∷ 0 ∷ []) $ fjoin ! $ done !)
 
   module _ (C : Calls 𝓤 H) (Λ : Loops 𝓤 H) where
-    walk : Is (T.the-row α) h (mach ∷ []) → Room f32 (length ys) → Is N.the-row st (sv ∷ []) → ent 𝓤 (onEntry 𝓤 H A get-samples.signature (κ, tt) (q, tt) (h, tt) vals) (WpFn 𝓤 H C Λ code.function (mach ∷ []) Post)
+    walk : Is (T.the-row α) h (mach ∷ []) → Room f32 (length ys) → Is N.the-row st (sv ∷ [])
+        → ent 𝓤 (onEntry 𝓤 H A get-samples.signature (κ, tt) (q, tt) (h, tt) vals) (WpFn 𝓤 H C Λ code.function (mach ∷ []) Post)
     walk g room is =
         qed W (raw (onEntry 𝓤 H A get-samples.signature (κ, tt) (q, tt) (h, tt) vals) ∷ []) ∵ enter ! C Λ code.function (mach ∷ []) _ $
         alloc1 ! (λ l₀. alloc1 ! (λ l₁. alloc1 ! (λ l₂. alloc0 ! $ params1 ! $ pass1 ! (init ! 2 refl (LL.lawful (T.the-type α) (T′.the-laws α) 𝓤 H A W .typed h _ g .0)) $ pass0 ! $
         assigns ! (addr ! (from ! (fld ! refl (fld ! refl (hop ! (look-in ! 2 (sub ! 0 refl (sub ! 0 refl (whole !)))) (stop !)))))) (from ! (stop !)) (init ! 0 refl (tt, tt)) $
-        assigns ! (agg ! (and-then ! (load ! (from ! (stop !)) (look ! 0 refl)) (and-then ! (load ! (from ! (fld ! refl (fld ! refl (stop !)))) (look-in ! 2 (sub ! 1 refl (sub ! 0 refl (whole !))))) (no-more !)))) (from ! (stop !)) (init ! 4 refl (tt, (tt, (record { fits = room .0 }, tt)))) $
+        assigns ! (agg ! (and-then ! (load ! (from ! (stop !)) (look ! 0 refl))
+        (and-then ! (load ! (from ! (fld ! refl (fld ! refl (stop !)))) (look-in ! 2 (sub ! 1 refl (sub ! 0 refl (whole !))))) (no-more !)))) (from ! (stop !))
+        (init ! 4 refl (tt, (tt, (record { fits = room .0 }, tt)))) $
         returns ! (look ! 4 refl) $ forget ! 0 refl $ forget ! 2 refl $ forget ! 4 refl $ move ! (4 ∷ 5 ∷ []) $ free1 ! $ move ! (2 ∷ 3 ∷ []) $ free1 ! $ free1 ! $ free0 ! $ by ! (exits is))))
 
 module _ {M : Type 1} (𝓤 : URA M) (H : Heap 𝓤) (A : Atoms 𝓤) (W : Given 𝓤 H A) (mem : Memory → SProp 𝓤) (run : Routine → Fun 𝓤) where

@@ -6,7 +6,7 @@ use denote.Triple.Table.{entered, cited}
 use Rattle.port.specs.Readings.{instantaneousPower}
 use Rattle.port.proofs.Port.instantaneous_power.Symbol as in-def
 use Rattle.port.proofs.Port.instantaneous_power.Met as in-thm
-use Rattle.held.proofs.ByValue.{number, number-laws}
+use Rattle.laws.proofs.ByValue.{number, number-laws}
 use Rattle.held.proofs.Inside.{the-port}
 use Rattle.held.proofs.Read.{Callee, read-meets}
 use Rattle.held.proofs.Signal.instantaneous_power.Key.{name}

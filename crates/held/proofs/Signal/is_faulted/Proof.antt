@@ -7,7 +7,7 @@ use mathlib.Core.Bool.{Bool}
 use Rattle.port.specs.declared.Port.{Port}
 use Rattle.port.proofs.Port.is_faulted.Symbol as in-def
 use Rattle.port.proofs.Port.is_faulted.Met as in-thm
-use Rattle.held.proofs.ByValue.{flag, flag-laws}
+use Rattle.laws.proofs.ByValue.{flag, flag-laws}
 use Rattle.held.proofs.Inside.{the-port}
 use Rattle.held.proofs.Read.{Callee, read-meets}
 use Rattle.held.proofs.Signal.is_faulted.Key.{name}

@@ -6,7 +6,8 @@ use denote.Triple.Table.{entered, cited}
 use Rattle.signal.specs.Calls.{highest, newOf}
 use Rattle.signal.proofs.new.Symbol as in-def
 use Rattle.signal.proofs.new.Met as in-thm
-use Rattle.held.proofs.ByValue.{wave, wave-laws, number, number-laws}
+use Rattle.laws.proofs.ByValue.{number, number-laws}
+use Rattle.held.proofs.ByValue.{wave, wave-laws}
 use Rattle.held.proofs.Made.{Callee, made-meets}
 use Rattle.held.proofs.Signal.new.Key.{name}
 use Rattle.held.proofs.Signal.new as new

@@ -8,7 +8,7 @@ use Rattle.port.specs.declared.Port.{Port}
 use Rattle.port.specs.Fields as Fields
 use Rattle.port.proofs.Port.set_active_power.Symbol as in-def
 use Rattle.port.proofs.Port.set_active_power.Met as in-thm
-use Rattle.held.proofs.ByValue.{number, number-laws}
+use Rattle.laws.proofs.ByValue.{number, number-laws}
 use Rattle.held.proofs.PortStep.{Callee, port-meets}
 use Rattle.held.proofs.Signal.set_active_power.Key.{name}
 use Rattle.held.proofs.Signal.set_active_power as set-active-power

@@ -10,7 +10,8 @@ use Rattle.port.specs.Fields as Fields
 use Rattle.port.specs.Readings.{withPlace}
 use Rattle.port.proofs.Port.set_current_harmonic.Symbol as in-def
 use Rattle.port.proofs.Port.set_current_harmonic.Met as in-thm
-use Rattle.held.proofs.ByValue.{small, small-laws, reading, reading-laws}
+use Rattle.laws.proofs.ByValue.{small, small-laws}
+use Rattle.held.proofs.ByValue.{reading, reading-laws}
 use Rattle.held.proofs.PortTwo.{Callee, two-meets}
 use Rattle.held.proofs.Signal.set_current_harmonic.Key.{name}
 use Rattle.held.proofs.Signal.set_current_harmonic as set-current-harmonic

@@ -8,7 +8,7 @@ use Rattle.port.specs.declared.Port.{Port}
 use Rattle.port.specs.Fields as Fields
 use Rattle.port.proofs.Port.set_energy_exported.Symbol as in-def
 use Rattle.port.proofs.Port.set_energy_exported.Met as in-thm
-use Rattle.held.proofs.ByValue.{wide, wide-laws}
+use Rattle.laws.proofs.ByValue.{wide, wide-laws}
 use Rattle.held.proofs.PortStep.{Callee, port-meets}
 use Rattle.held.proofs.Signal.set_energy_exported.Key.{name}
 use Rattle.held.proofs.Signal.set_energy_exported as set-energy-exported

@@ -6,7 +6,7 @@ use denote.Triple.Table.{entered, cited}
 use Rattle.signal.specs.Calls.{highest, phaseSet}
 use Rattle.signal.proofs.set_phase.Symbol as in-def
 use Rattle.signal.proofs.set_phase.Met as in-thm
-use Rattle.held.proofs.ByValue.{number, number-laws}
+use Rattle.laws.proofs.ByValue.{number, number-laws}
 use Rattle.held.proofs.Step.{Callee, step-meets}
 use Rattle.held.proofs.Signal.set_phase.Key.{name}
 use Rattle.held.proofs.Signal.set_phase as set-phase

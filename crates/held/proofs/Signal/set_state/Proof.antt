@@ -8,7 +8,7 @@ use Rattle.port.specs.declared.Port.{Port}
 use Rattle.port.specs.Fields as Fields
 use Rattle.port.proofs.Port.set_state.Symbol as in-def
 use Rattle.port.proofs.Port.set_state.Met as in-thm
-use Rattle.held.proofs.ByValue.{flag, flag-laws}
+use Rattle.laws.proofs.ByValue.{flag, flag-laws}
 use Rattle.held.proofs.PortTwo.{Callee, two-meets}
 use Rattle.held.proofs.Signal.set_state.Key.{name}
 use Rattle.held.proofs.Signal.set_state as set-state

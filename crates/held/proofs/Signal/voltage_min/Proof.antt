@@ -7,7 +7,7 @@ use lib.Ieee.{Float}
 use Rattle.port.specs.declared.Port.{Port}
 use Rattle.port.proofs.Port.voltage_min.Symbol as in-def
 use Rattle.port.proofs.Port.voltage_min.Met as in-thm
-use Rattle.held.proofs.ByValue.{number, number-laws}
+use Rattle.laws.proofs.ByValue.{number, number-laws}
 use Rattle.held.proofs.Inside.{the-port}
 use Rattle.held.proofs.Read.{Callee, read-meets}
 use Rattle.held.proofs.Signal.voltage_min.Key.{name}

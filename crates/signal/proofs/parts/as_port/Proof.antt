@@ -33,7 +33,8 @@ set-displacement-pf-requires c κs = search needs
 
 returns : tie.Need-returns
 returns c =
-    port-whole (c .before .before .before .before .before .before .before .before .before .before .args .state) _ _ _ (c .before .before .before .before .before .before .before .before .before .abs32 .result) _ _ _ _ _ _ _ _ (c .before .before .before .before .before .before .before .before .before .abs32 .ensures)
+    let sized = c .before .before .before .before .before .before .before .before .before in
+    port-whole (sized .before .args .state) _ _ _ (sized .abs32 .result) _ _ _ _ _ _ _ _ (sized .abs32 .ensures)
     (c .before .before .before .before .before .before .before .set-voltage .ensures)
     (c .before .before .before .before .before .before .set-current .ensures)
     (c .before .before .before .before .before .set-frequency .ensures)

@@ -17,7 +17,9 @@ measure-requires : tie.Need-measure-requires
 measure-requires c κs = ap onGrid (c .before .before .before .generate-samples .kept .1 .1 .1 .1 .1 .0) ∙ c .before .before .before .before .before .before .before .pre
 
 returns : tie.Need-returns
-returns c = let start = c .before .before .before .before .before .before .before .before in made-whole _ (start .args .state) _ (now (start .args .samples)) _ _ (c .before .before .before .before .generate-samples .ensures) (c .measure .ensures)
+returns c =
+    let start = c .before .before .before .before .before .before .before .before in
+    made-whole _ (start .args .state) _ (now (start .args .samples)) _ _ (c .before .before .before .before .generate-samples .ensures) (c .measure .ensures)
 
 pub make-spec : {M : Type 1} → statement M
 make-spec =

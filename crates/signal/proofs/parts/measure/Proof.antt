@@ -19,9 +19,12 @@ levelled-requires c κs = search needs
 
 returns : tie.Need-returns
 returns c =
-    let start = c .before .before .before .before .before .before .before .before .before in
-    measured-whole _ (start .args .state) (now (start .args .samples)) (c .before .before .before .before .before .calculate-time-figures .result) (c .before .before .before .thd .result) _ _
-    (c .before .before .before .before .before .calculate-time-figures .ensures) (c .before .before .before .thd .ensures) (c .before .voltage-of .ensures) (c .levelled .ensures)
+    let called = c .before .before .before .before .before in
+    let timed = called .calculate-time-figures in
+    let start = called .before .before .before .before .before in
+    let distorted = c .before .before .before .thd in
+    measured-whole _ (start .args .state) (now (start .args .samples)) (timed .result) (distorted .result) _ _
+    (timed .ensures) (distorted .ensures) (c .before .voltage-of .ensures) (c .levelled .ensures)
 
 pub measure-spec : {M : Type 1} → statement M
 measure-spec =

@@ -25,7 +25,9 @@ make-requires c κs = none-holds _ _ _ _ (c .before .before .before .judged .ens
 
 returns-2 : tie.Need-returns-2
 unfolding remade
-returns-2 c = c .before .before .make .ensures ∙ sym (taken _ _ _ _ _ (c .before .before .before .before .before .before .judged .ensures) (c .before .before .before .before .before .number-of .ensures) (c .before .before .before .before .if1 .left))
+returns-2 c =
+    let at-if = c .before .before .before .before in
+    c .before .before .make .ensures ∙ sym (taken _ _ _ _ _ (at-if .before .before .judged .ensures) (at-if .before .number-of .ensures) (at-if .if1 .left))
 
 pub remake-spec : {M : Type 1} → statement M
 remake-spec =
