@@ -7,8 +7,7 @@ use Rattle.laws.specs.Literals.{zero32, one32}
 use Rattle.number.specs.Number.{abs}
 use Rattle.answers.specs.declared.Outcome.{Outcome}
 use Rattle.answers.specs.declared.Outcome.the-variants.{Done}
-use Rattle.answers.specs.Left.{left}
-use Rattle.answers.specs.Written.{Written, written}
+use Rattle.answers.specs.Left.{Left, left}
 use Rattle.generator.specs.Sample.{generated}
 use Rattle.port.specs.declared.Port.{Port}
 use Rattle.port.specs.declared.Reading.{Reading}
@@ -28,9 +27,9 @@ pub measured-whole : (top : ℕ) (s : State) (xs : List Float) (a : TimeAnswer) 
 unfolding withMeasured
 measured-whole top s xs a thd v p ea et ev ep = rw (ep, ev, et, ea)
 
-pub made-whole : (top : ℕ) (s r : State) (xs ys : List Float) (o : Outcome) → written o ys ≡ generated (s .shape) xs → r ≡ withMeasured top s ys → left (answer Done r) ys ≡ made top s xs
+pub made-whole : (top : ℕ) (s r : State) (xs ys : List Float) (o : Outcome) → left o ys ≡ generated (s .shape) xs → r ≡ withMeasured top s ys → left (answer Done r) ys ≡ made top s xs
 unfolding made
-made-whole top s r xs ys o g e = let p : ys ≡ generated (s .shape) xs .places = ap (λ (w : Written Float). w .places) g in rw (e, p)
+made-whole top s r xs ys o g e = let p : ys ≡ generated (s .shape) xs .places = ap (λ (w : Left Outcome (List Float)). w .places) g in rw (e, p)
 
 pub remade-same : (top : ℕ) (e e′ n n′ : State) (xs : List Float) (l : SignalLeft) → e ≡ e′ → n ≡ n′ → l ≡ remade top e n xs → l ≡ remade top e′ n′ xs
 remade-same top e e′ n n′ xs l p q h = rw (← p, ← q) h
