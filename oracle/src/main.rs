@@ -3,7 +3,7 @@
 //!     oracle compare [AREA..] [ROUNDS]    every answer compared; the last line counts calls and differences
 //!     oracle bench [AREA..]               both measured; one Markdown table
 //!     oracle fuzz MINUTES [SEED]          mutated captures for so long
-//!     oracle replay                       writes the data of the replay program from the Rust's answers
+//!     oracle replay                       writes the data of the replay programs from the Rust's answers
 //!
 //! An area is one file with `ROUNDS`, `compare` and `bench`, and one line below.
 

@@ -26,9 +26,8 @@ fn packed(text: &[u8]) -> Vec<u32> {
 /// A call that is given words alone, and answers a number; some of them are what it answers, or what stands somewhere afterwards.
 pub fn ended(lines: &mut Lines, which: u32, words: Vec<u32>, answers: Vec<(usize, Field)>, code: u32) {
     let given = Given {
-        words,
         answers,
-        ..Given::default()
+        ..Given::numbers(words)
     };
     let said = Said {
         code,
@@ -138,8 +137,7 @@ pub fn power(volts: &[i16], amps: &[i16]) -> Said {
     };
     Said {
         code,
-        floats: vec![p, q, s, pf],
-        ..Said::default()
+        ..Said::floats(vec![p, q, s, pf])
     }
 }
 
@@ -155,11 +153,7 @@ pub fn codes(lines: &mut Lines) {
         };
         let mut words = vec![nv as u32, na as u32];
         words.extend(pairs(&volts, &amps));
-        let given = Given {
-            words,
-            ..Given::default()
-        };
-        lines.line(4, &given, &power(&volts[..nv], &amps[..na]));
+        lines.line(4, &Given::numbers(words), &power(&volts[..nv], &amps[..na]));
     }
 }
 

@@ -1,8 +1,11 @@
 //! The limit of 65,536: slices of that many places and of one more. What is refused with 3, and before it what would be refused otherwise, comes from 01.
 
 use super::captures::{ended, pairs, power};
+use super::ports::reading;
+use super::signals::{nothing_shown, shown, with_thd};
+use super::slices::SCRATCH;
 use super::wrong::{Field, PAIR, WHOLE};
-use super::{reading, shown, with_thd, word, words, Given, Lines, Said, SCRATCH};
+use super::{word, words, Given, Lines, Said};
 use crate::generator::wave_of;
 use crate::lines::{self, LONGEST};
 use crate::quality::cut;
@@ -24,12 +27,9 @@ fn level(n: usize) -> Vec<f32> {
     vec![1.5; n]
 }
 
-/// One call of 01's item: the code, and, where that is 0, what the Rust says and leaves; else zeros, as many, and nothing written.
+/// One call of this item: the code, and, where that is 0, what the Rust says and leaves; else zeros, as many, and nothing written.
 fn case(lines: &mut Lines, item: u32, which: u32, given: &Given, code: u32, answer: impl Fn(&Given, &mut Said)) {
-    let mut said = Said {
-        out: given.out.clone(),
-        ..Said::default()
-    };
+    let mut said = Said::left(vec![], given.out.clone());
     answer(given, &mut said);
     if code > 0 {
         said.wide = 0.0;
@@ -45,17 +45,10 @@ fn case(lines: &mut Lines, item: u32, which: u32, given: &Given, code: u32, answ
 pub fn slices(lines: &mut Lines) {
     for n in LENGTHS {
         let code = limited(&[n], 0);
-        let on = |words: Vec<u32>, a: Vec<f32>, out: Vec<f32>| Given {
-            words,
-            a,
-            out,
-            ..Given::default()
-        };
         let by = vec![word(&0.25)];
         for (which, call) in [(1, signal::add_dc_offset as fn(&mut [f32], f32)), (2, signal::scale)] {
-            case(lines, 2, which, &on(by.clone(), vec![], level(n)), code, |_, said| {
-                call(&mut said.out, 0.25)
-            });
+            let given = Given::into(by.clone(), level(n));
+            case(lines, 2, which, &given, code, |_, said| call(&mut said.out, 0.25));
         }
         for (which, call) in [
             (1, signal::measure_frequency as fn(&[f32], f32) -> f32),
@@ -65,7 +58,7 @@ pub fn slices(lines: &mut Lines) {
                 lines,
                 3,
                 which,
-                &on(by.clone(), level(n), vec![]),
+                &Given::on(by.clone(), level(n)),
                 code,
                 |given, said| said.floats = vec![call(&given.a, 0.25)],
             );
@@ -74,7 +67,7 @@ pub fn slices(lines: &mut Lines) {
         qualities(lines, n);
         let settings: Vec<u32> = [0.5, 90.0, 2.0, 0.25].iter().map(word).collect();
         let words = [&[0], &settings[..]].concat();
-        case(lines, 8, 1, &on(words, vec![], level(n)), code, |_, said| {
+        case(lines, 8, 1, &Given::into(words, level(n)), code, |_, said| {
             Signal::tail_generate(wave_of(0), 0.5, 90.0, 2.0, 0.25, &mut said.out)
         });
     }
@@ -96,10 +89,8 @@ fn two_slices(lines: &mut Lines) {
         (3, 0, refused),
     ] {
         let given = Given {
-            a: level(na),
-            b: vec![0.25; nb],
             out: vec![-77.25; n],
-            ..Given::default()
+            ..Given::on_two(level(na), vec![0.25; nb])
         };
         case(lines, 2, 3, &given, limited(&[na, nb], 0), |given, said| {
             signal::add_signals(&given.a, &given.b, &mut said.out)
@@ -114,11 +105,7 @@ fn two_slices(lines: &mut Lines) {
         (taken, 2),
         (2, taken),
     ] {
-        let given = Given {
-            a: level(na),
-            b: vec![0.25; nb],
-            ..Given::default()
-        };
+        let given = Given::on_two(level(na), vec![0.25; nb]);
         let code = limited(&[na, nb], (na != nb) as u32);
         case(lines, 4, 1, &given, code, |given, said| {
             let (p, q, s, pf) = match na == nb {
@@ -134,12 +121,11 @@ fn two_slices(lines: &mut Lines) {
 fn spectra(lines: &mut Lines, n: usize) {
     for (which, scratch) in [(1, 0), (2, 4)] {
         let kept = vec![SCRATCH; scratch].into_iter().flat_map(words);
+        let words = [scratch as u32].into_iter().chain(kept).collect();
         let given = Given {
-            words: [scratch as u32].into_iter().chain(kept).collect(),
-            a: level(n),
             out: vec![-77.25; 2],
             answers: (0..scratch).map(|k| (1 + 2 * k, Field::Double)).collect(),
-            ..Given::default()
+            ..Given::on(words, level(n))
         };
         case(lines, 6, which, &given, limited(&[n], 4), |_, _| ());
     }
@@ -149,11 +135,7 @@ fn spectra(lines: &mut Lines, n: usize) {
 fn qualities(lines: &mut Lines, n: usize) {
     let code = limited(&[n], 0);
     for bin in [1, 0, n] {
-        let given = Given {
-            words: vec![0, bin as u32],
-            a: level(n),
-            ..Given::default()
-        };
+        let given = Given::on(vec![0, bin as u32], level(n));
         case(lines, 7, 1, &given, code, |given, said| {
             said.floats = vec![signal::compute_thd_from_spectrum(&given.a, bin)]
         });
@@ -170,15 +152,12 @@ fn qualities(lines: &mut Lines, n: usize) {
     }
 }
 
+/// Signals on lengths that are refused, when they are made and when they are set.
 pub fn signals(lines: &mut Lines) {
-    lines.item = 5;
-    figures(lines);
-    lines.item = 10;
     for n in LENGTHS {
         let power_port = [&[word(&2.0), word(&3.0)][..], &reading(Some(50.0))].concat();
         for (which, made) in [(1, vec![1, word(&2.0), word(&3.0), 0]), (2, power_port)] {
-            let floats = [[0.0; 27].to_vec(), vec![-1.0; 4]].concat();
-            refused(lines, which, n, &made, &[0, 0, 0], floats);
+            refused(lines, which, n, &made, &[0, 0, 0], nothing_shown());
         }
     }
     // `new` is on eight samples here, and what is set on n
@@ -193,7 +172,7 @@ pub fn signals(lines: &mut Lines) {
 }
 
 /// The time figures, whose earlier record comes back.
-fn figures(lines: &mut Lines) {
+pub fn figures(lines: &mut Lines) {
     for n in LENGTHS {
         let earlier = SignalMetrics::tail_from(&[0; 24].map(|_| lines.random.unit() as f32));
         let mut list = level(n);
@@ -203,17 +182,11 @@ fn figures(lines: &mut Lines) {
         }
         let mut words = vec![2, word(&2.0), word(&3.0)];
         words.extend(earlier.tail_time().iter().map(word));
-        let given = Given {
-            words,
-            a: level(n),
-            ..Given::default()
-        };
         let said = Said {
             code: limited(&[n], 0),
-            floats: signal.get_metrics().tail_time().to_vec(),
-            ..Said::default()
+            ..Said::floats(signal.get_metrics().tail_time().to_vec())
         };
-        lines.line(1, &given, &said);
+        lines.line(1, &Given::on(words, level(n)), &said);
     }
 }
 
@@ -224,18 +197,12 @@ fn refused(lines: &mut Lines, which: u32, n: usize, made: &[u32], settings: &[u3
         .iter()
         .zip(&values)
         .flat_map(|(setting, x)| [*setting, word(x)]);
-    let given = Given {
-        words: made.iter().copied().chain(settings).collect(),
-        out: level(n),
-        ..Given::default()
-    };
+    let words = made.iter().copied().chain(settings).collect();
     let said = Said {
         code: limited(&[n], 4),
-        floats,
-        out: given.out.clone(),
-        ..Said::default()
+        ..Said::left(floats, level(n))
     };
-    lines.line(which, &given, &said);
+    lines.line(which, &Given::into(words, level(n)), &said);
 }
 
 // ---------------------------------------------------------------------------- captures
@@ -313,10 +280,7 @@ fn writes(lines: &mut Lines) {
 fn powers(lines: &mut Lines) {
     let [taken, over] = LENGTHS;
     for (nv, na) in [(taken, taken), (over, over), (over, 2), (2, over), (taken, taken - 1)] {
-        let given = Given {
-            words: vec![nv as u32, na as u32],
-            ..Given::default()
-        };
+        let given = Given::numbers(vec![nv as u32, na as u32]);
         lines.line(7, &given, &power(&vec![CODES.0; nv], &vec![CODES.1; na]));
     }
 }

@@ -1,11 +1,13 @@
-//! Lists of more places than a line has words for, made by a rule from one word and compared by a sum: as crates/replay/src/made.rt has them.
+//! Lists of more places than a line has words for, made by a rule from one word and compared by a sum: as crates/replaying/src/made.rt has them.
 
+use super::ports::reading;
+use super::signals::{answered, refused, set_again, with_thd};
+use super::slices::{quotients, sines, SCRATCH};
 use super::wrong::WHOLE;
-use super::{answered, reading, set_again, sines, with_thd, word, Given, Lines, Said, ROOM, SCRATCH};
+use super::{word, Given, Lines, Said, ROOM};
 use crate::generator::wave_of;
 use crate::lines::LONGEST;
-use crate::quality::cut;
-use crate::signal::{self, Signal};
+use crate::signal::Signal;
 use crate::spectrum::over_sines;
 
 /// Whether a list of so many places is made by the rule.
@@ -84,18 +86,15 @@ fn spectrum(lines: &mut Lines, which: u32, n: usize, n_out: usize, n_scratch: us
     let mut scratch = vec![SCRATCH; 4096];
     let mut said = Said {
         code: if on_grid(n) { 2 * short as u32 } else { 4 },
-        out: out.clone(),
-        ..Said::default()
+        ..Said::left(vec![], out.clone())
     };
     if said.code == 0 {
         over_sines(&a, &sines(n), &mut said.out);
         scratch.splice(..n, sines(n));
     }
     let mut given = Given {
-        words: vec![n_scratch as u32],
-        a,
         out,
-        ..Given::default()
+        ..Given::on(vec![n_scratch as u32], a)
     };
     if which == 3 {
         given.words.push(sum_of_doubles(&scratch));
@@ -110,21 +109,7 @@ pub fn qualities(lines: &mut Lines) {
         let a = made(n as u32 + 5, n);
         let from = |first: usize| (first..n).filter(|bin| a[*bin] > 0.0);
         for bin in from(1).take(3).chain(from((n - 1) / 17).take(3)) {
-            let given = Given {
-                words: vec![0, bin as u32],
-                a: a.clone(),
-                ..Given::default()
-            };
-            let of = |wide: f64, floats: Vec<f32>| Said {
-                wide,
-                floats,
-                ..Said::default()
-            };
-            lines.line(1, &given, &of(0.0, vec![signal::compute_thd_from_spectrum(&a, bin)]));
-            let (snr, sinad, sfdr) = (cut::cut_snr(&a, bin), cut::cut_sinad(&a, bin), cut::cut_sfdr(&a, bin));
-            lines.line(3, &given, &of(snr.1, vec![snr.0 as f32]));
-            lines.line(4, &given, &of(sinad.1, vec![sinad.0 as f32]));
-            lines.line(5, &given, &of(0.0, vec![sfdr.0 as f32, sfdr.1 as f32]));
+            quotients(lines, a.clone(), bin);
         }
     }
 }
@@ -151,16 +136,6 @@ pub fn signals(lines: &mut Lines) {
     }
 }
 
-/// What every call on a length off the grid says: 4, all zero or absent, and the samples as they were.
-fn refused(out: &[f32]) -> Said {
-    Said {
-        code: 4,
-        floats: [[0.0; 27].to_vec(), vec![-1.0; 4]].concat(),
-        out: out.to_vec(),
-        ..Said::default()
-    }
-}
-
 /// A signal on n places of the rule, and three settings.
 fn made_signal(lines: &mut Lines, n: usize, wave: u8, frequency: f32, settings: [u32; 3]) {
     let value = |setting| if setting == 1 { 100.0 } else { 0.3 };
@@ -182,7 +157,7 @@ fn made_signal(lines: &mut Lines, n: usize, wave: u8, frequency: f32, settings: 
         }
         said = answered(&signal, &out);
     }
-    ended(lines, 1, words, out, &said);
+    lines.line(1, &Given::into(words, out), &said);
 }
 
 fn made_port(lines: &mut Lines, n: usize) {
@@ -196,14 +171,5 @@ fn made_port(lines: &mut Lines, n: usize) {
         with_thd(&mut signal, 0.0);
         said = answered(&signal, &out);
     }
-    ended(lines, 2, words, out, &said);
-}
-
-fn ended(lines: &mut Lines, which: u32, words: Vec<u32>, out: Vec<f32>, said: &Said) {
-    let given = Given {
-        words,
-        out,
-        ..Given::default()
-    };
-    lines.line(which, &given, said);
+    lines.line(2, &Given::into(words, out), &said);
 }

@@ -1,0 +1,66 @@
+// The sequences on a signal that keeps its samples: three make it of a wave, an amplitude and a frequency, and one of a port's readings.
+use crate::of_signal;
+use replaying::read;
+use replaying::records;
+use replaying::said;
+use replaying::said::Said;
+use signal::Answer;
+
+fn answered(a: Answer) -> Said {
+    let outcome = a.outcome;
+    let state = a.state;
+    said::floats(outcome, of_signal::list(state))
+}
+
+fn shaped(line: &[u8], out: &mut [f32]) -> Said {
+    answered(sequences::shaped(
+        generator::wave_of(read::byte(line, 4)),
+        read::float(line, 5),
+        read::float(line, 6),
+        read::float(line, 7),
+        read::float(line, 8),
+        out,
+    ))
+}
+
+fn emptied(line: &[u8], out: &mut [f32]) -> Said {
+    answered(sequences::emptied(
+        generator::wave_of(read::byte(line, 4)),
+        read::float(line, 5),
+        read::float(line, 6),
+        read::float(line, 7),
+        out,
+    ))
+}
+
+fn measured(line: &[u8], out: &mut [f32]) -> Said {
+    let answer = sequences::measured(
+        generator::wave_of(read::byte(line, 4)),
+        read::float(line, 5),
+        read::float(line, 6),
+        read::float(line, 7),
+        out,
+    );
+    let outcome = answer.outcome;
+    let metrics = answer.metrics;
+    said::floats(outcome, of_signal::metrics(metrics))
+}
+
+fn powered(line: &[u8], out: &mut [f32]) -> Said {
+    said::measured(sequences::powered(
+        read::float(line, 4),
+        read::float(line, 5),
+        records::reading_at(line, 6),
+        read::float(line, 8),
+        out,
+    ))
+}
+
+pub fn call(line: &[u8], which: u32, out: &mut [f32]) -> Said {
+    match which {
+        1 => shaped(line, out),
+        2 => emptied(line, out),
+        3 => measured(line, out),
+        _ => powered(line, out),
+    }
+}
