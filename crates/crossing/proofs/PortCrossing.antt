@@ -33,7 +33,9 @@ places-back [] = refl
 places-back (s ∷ l) = rw (slot-back s, places-back l)
 
 -- the record that `port_in` puts together
-pub port-in-whole : (p : TjPort) (frequency : Slot) (phase-angle : Slot) (reactive-power : Slot) (apparent-power : Slot) (power-factor : Slot) (displacement-pf : Slot) (voltage-thd : Slot) (current-thd : Slot) (voltage-crest-factor : Slot) (current-crest-factor : Slot) (voltage-harmonics : List Slot) (current-harmonics : List Slot) (efficiency : Slot) (losses : Slot) (temperature : Slot)
+pub port-in-whole : (p : TjPort) (frequency : Slot) (phase-angle : Slot) (reactive-power : Slot) (apparent-power : Slot) (power-factor : Slot) (displacement-pf : Slot) (voltage-thd : Slot)
+    (current-thd : Slot) (voltage-crest-factor : Slot) (current-crest-factor : Slot) (voltage-harmonics : List Slot) (current-harmonics : List Slot) (efficiency : Slot) (losses : Slot)
+    (temperature : Slot)
     → frequency ≡ slotIn (p .frequency)
     → phase-angle ≡ slotIn (p .«phase_angle»)
     → reactive-power ≡ slotIn (p .«reactive_power»)
@@ -77,10 +79,13 @@ pub port-in-whole : (p : TjPort) (frequency : Slot) (phase-angle : Slot) (reacti
       «is_faulted» = p .«is_faulted»;
       temperature = temperature;
     } (portIn p)
-port-in-whole p frequency phase-angle reactive-power apparent-power power-factor displacement-pf voltage-thd current-thd voltage-crest-factor current-crest-factor voltage-harmonics current-harmonics efficiency losses temperature e1 e2 e3 e4 e5 e6 e7 e8 e9 e10 e11 e12 e13 e14 e15 = rw (e15, e14, e13, e12, e11, e10, e9, e8, e7, e6, e5, e4, e3, e2, e1)
+port-in-whole p frequency phase-angle reactive-power apparent-power power-factor displacement-pf voltage-thd current-thd voltage-crest-factor current-crest-factor voltage-harmonics current-harmonics
+    efficiency losses temperature e1 e2 e3 e4 e5 e6 e7 e8 e9 e10 e11 e12 e13 e14 e15 = rw (e15, e14, e13, e12, e11, e10, e9, e8, e7, e6, e5, e4, e3, e2, e1)
 
 -- the record that `port_out` puts together
-pub port-out-whole : (p : Port) (frequency : TjReading) (phase-angle : TjReading) (reactive-power : TjReading) (apparent-power : TjReading) (power-factor : TjReading) (displacement-pf : TjReading) (voltage-thd : TjReading) (current-thd : TjReading) (voltage-crest-factor : TjReading) (current-crest-factor : TjReading) (voltage-harmonics : List TjReading) (current-harmonics : List TjReading) (efficiency : TjReading) (losses : TjReading) (temperature : TjReading)
+pub port-out-whole : (p : Port) (frequency : TjReading) (phase-angle : TjReading) (reactive-power : TjReading) (apparent-power : TjReading) (power-factor : TjReading) (displacement-pf : TjReading)
+    (voltage-thd : TjReading) (current-thd : TjReading) (voltage-crest-factor : TjReading) (current-crest-factor : TjReading) (voltage-harmonics : List TjReading) (current-harmonics : List TjReading)
+    (efficiency : TjReading) (losses : TjReading) (temperature : TjReading)
     → frequency ≡ slotOut (p .frequency)
     → phase-angle ≡ slotOut (p .«phase_angle»)
     → reactive-power ≡ slotOut (p .«reactive_power»)
@@ -124,8 +129,25 @@ pub port-out-whole : (p : Port) (frequency : TjReading) (phase-angle : TjReading
       «is_faulted» = p .«is_faulted»;
       temperature = temperature;
     } (portOut p)
-port-out-whole p frequency phase-angle reactive-power apparent-power power-factor displacement-pf voltage-thd current-thd voltage-crest-factor current-crest-factor voltage-harmonics current-harmonics efficiency losses temperature e1 e2 e3 e4 e5 e6 e7 e8 e9 e10 e11 e12 e13 e14 e15 = rw (e15, e14, e13, e12, e11, e10, e9, e8, e7, e6, e5, e4, e3, e2, e1)
+port-out-whole p frequency phase-angle reactive-power apparent-power power-factor displacement-pf voltage-thd current-thd voltage-crest-factor current-crest-factor voltage-harmonics current-harmonics
+    efficiency losses temperature e1 e2 e3 e4 e5 e6 e7 e8 e9 e10 e11 e12 e13 e14 e15 = rw (e15, e14, e13, e12, e11, e10, e9, e8, e7, e6, e5, e4, e3, e2, e1)
 
 -- nothing is lost on the way out and in again
 pub port-back : (p : Port) → portIn (portOut p) ≡ p
-port-back p = rw (slot-back (p .frequency), slot-back (p .«phase_angle»), slot-back (p .«reactive_power»), slot-back (p .«apparent_power»), slot-back (p .«power_factor»), slot-back (p .«displacement_pf»), slot-back (p .«voltage_thd»), slot-back (p .«current_thd»), slot-back (p .«voltage_crest_factor»), slot-back (p .«current_crest_factor»), places-back (p .«voltage_harmonics»), places-back (p .«current_harmonics»), slot-back (p .efficiency), slot-back (p .losses), slot-back (p .temperature))
+port-back p = rw (
+  slot-back (p .frequency),
+  slot-back (p .«phase_angle»),
+  slot-back (p .«reactive_power»),
+  slot-back (p .«apparent_power»),
+  slot-back (p .«power_factor»),
+  slot-back (p .«displacement_pf»),
+  slot-back (p .«voltage_thd»),
+  slot-back (p .«current_thd»),
+  slot-back (p .«voltage_crest_factor»),
+  slot-back (p .«current_crest_factor»),
+  places-back (p .«voltage_harmonics»),
+  places-back (p .«current_harmonics»),
+  slot-back (p .efficiency),
+  slot-back (p .losses),
+  slot-back (p .temperature),
+)

@@ -16,7 +16,7 @@ figures-of-requires c κs = search needs
 
 returns : tie.Need-returns
 returns c =
-    let call = c .before .before in
+    let call = c .before in
     rw (c .figures-of .ensures, ← call .before .wave-of .ensures) (ap codedFigures (call .calculate-time-figures .ensures))
 
 pub tj-calculate-time-figures-spec : {M : Type 1} → statement M

@@ -12,7 +12,7 @@ power-of-requires : tie.Need-power-of-requires
 power-of-requires c κs = search needs
 
 returns : tie.Need-returns
-returns c = rw (c .power-of .ensures) (ap codedPower (c .before .before .compute-power .ensures))
+returns c = rw (c .power-of .ensures) (ap codedPower (c .before .compute-power .ensures))
 
 pub tj-compute-power-spec : {M : Type 1} → statement M
 tj-compute-power-spec = tie.close (tie.spec compute-power-requires power-of-requires returns)

@@ -13,8 +13,8 @@ power-of-requires c κs = search needs
 
 returns : tie.Need-returns
 returns c =
-    let m = c .before .before .power-of-codes .ensures in
-    record { answer = rw (c .power-of .ensures) (ap codedPower (m .answer)); near = m .near }
+    let m = c .before .power-of-codes .ensures in
+    record { answer = rw (c .power-of .ensures) (ap codedPower (m .answer)); near = rw (c .power-of .ensures) (m .near) }
 
 pub tj-power-of-codes-spec : {M : Type 1} → statement M
 tj-power-of-codes-spec = tie.close (tie.spec power-of-codes-requires power-of-requires returns)
