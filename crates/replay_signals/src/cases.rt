@@ -1,4 +1,4 @@
-// Cases over signals, by value and held: 01's item 10, and 12.
+// Cases over signals: by value, 01's item 10, and held, our number 12.
 use crate::of_held;
 use crate::of_signal;
 use replaying::lists;
