@@ -1,10 +1,12 @@
 -- A signal as a walk sees it: its types in MIR, its machine value, and what whoever holds it knows of its fields. Every walk cites this.
 --     slice, lent      a slice's type, and that of a signal lent by `&mut`.        SignalS      the struct at the second of two lifetimes
 --     at-list, signal  the borrow of the samples at a list, and the struct at it.        sv, av, mach      a state's, an answer's and a struct's machine value
+--     samples-at, pointer-at, count-at, answer-at, state-at, port-at      where the struct's parts lie: computed here, and named by each step of a walk
 --     had              what the struct's fields own, at their machine values
 --     room, answer-is, state-is      what the struct's typing says of its fields.        said      what a call's answer is known to be, at its own machine value
 -- Assumes nothing.
-use mathlib.Core.Path.{subst}
+use mathlib.Core.Path.{_≡_, refl, subst}
+use mathlib.Core.Option.{some}
 use Prim.Native.Nat.{ℕ}
 use mathlib.Core.List.{[], _∷_, List}
 use lib.Ieee.{Float, binary32}
@@ -12,12 +14,14 @@ use lib.ListN.{length}
 use mir.Syntax.{Ty, named, erased, mut, w64, tyFloat, tyInt, tyRef, tyNamed, tyStruct, tcons, tnil}
 use mir.Val.{Val, vstruct, vnil, vcons}
 use base.Fml.{GName, Fml, ftrue, fsep}
+use prog.Memory.{fieldOf}
 use denote.Laws.{Is}
 use denote.Builtin.{f32}
 use denote.Ref.{RefT, NamedLft}
 use denote.Slice.{sliceVal, MutSlice, Room}
 use denote.Struct.Laws as LL
 use denote.Signature.{Slot, plain, namedLft}
+use Rattle.port.proofs.Port.Laws as P′
 use Rattle.signal.specs.declared.State.{State}
 use Rattle.signal.specs.declared.Answer.{Answer}
 use Rattle.signal.proofs.State as S
@@ -67,3 +71,23 @@ module _ (α : NamedLft) (w : Signal) (v : Val) (g : Is (T.the-row α) w (v ∷ 
 
 pub said : (r : Answer) (w : Val) → Is N.the-row r (w ∷ []) → Is N.the-row r (av r ∷ [])
 said r w is = subst (Is N.the-row r) (LL.tells N.the-type N′.the-laws r _ is) is
+
+-- ---- where the parts of a signal lie; a `refl` in a step's place would compute the whole layout again
+
+pub samples-at : fieldOf (T′.mir erased) 0 ≡ some (slice, 0)
+samples-at = refl
+
+pub pointer-at : fieldOf slice 0 ≡ some (tyRef erased mut (tyFloat binary32), 0)
+pointer-at = refl
+
+pub count-at : fieldOf slice 1 ≡ some (tyInt w64, 8)
+count-at = refl
+
+pub answer-at : fieldOf (T′.mir erased) 1 ≡ some (N′.mir, 16)
+answer-at = refl
+
+pub state-at : fieldOf N′.mir 1 ≡ some (S′.mir, 8)
+state-at = refl
+
+pub port-at : fieldOf S′.mir 1 ≡ some (P′.mir, 24)
+port-at = refl

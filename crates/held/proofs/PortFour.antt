@@ -57,7 +57,7 @@ use Rattle.held.proofs.Signal as T
 use Rattle.held.proofs.Signal.Laws as T′
 use Rattle.laws.proofs.ByValue.{ByValue, ByValueLaws, rowOf, goes-by-value, valsOf}
 use Rattle.held.proofs.Lent as Lent
-use Rattle.held.proofs.Lent.{lent, SignalS, av, had}
+use Rattle.held.proofs.Lent.{lent, SignalS, av, had, answer-at, state-at, port-at}
 use Rattle.held.proofs.PortIn.{pv, port-is, swapped-is}
 
 abbrev pub fourFn : Ty → Ty → Ty → Ty → Name → Fn
@@ -187,7 +187,8 @@ module _ (B₁ : ByValue) (L₁ : ByValueLaws B₁) (B₂ : ByValue) (L₂ : ByV
             use1 W (‵ (fat fullShare (T′.mir erased) b o (mach n))) (W .laws .raw-at fullShare (T′.mir erased) b o (mach n)) $
             move ! (1 ∷ []) $ peeks ! R (Is R) (shows 𝓤 H A R) (h n) (mach n ∷ []) (λ g. move ! (1 ∷ 0 ∷ []) $
             -- [the struct's cell; what the struct owns; the open borrow; obs; auth; the inner token; the arguments'; _7; …; _6; …; _5; …; _4; …; _3; …; _2; …; _1; …; room for _0; …]
-            assigns ! (of-opd ! (load ! (from ! (hop ! (look ! 19 refl) (fld ! refl (fld ! refl (fld ! refl (stop !)))))) (look-in ! 0 (sub ! 1 refl (sub ! 1 refl (sub ! 1 refl (whole !)))))))
+            assigns ! (of-opd ! (load ! (from ! (hop ! (look ! 19 refl) (fld ! answer-at (fld ! state-at (fld ! port-at (stop !))))))
+            (look-in ! 0 (sub ! 1 port-at (sub ! 1 state-at (sub ! 1 answer-at (whole !)))))))
             (from ! (stop !)) (init ! 9 refl (LL.lawful P.the-type P′.the-laws 𝓤 H A W .typed p _ (port-is n (Lent.answer-is α (h n) (mach n) g)) .0)) $
             -- what the struct owns is taken apart, and the borrow of the samples is kept
             move ! (1 ∷ []) $ use1 W (given (mach n ∷ [] ≡ mach n ∷ []) (‵ (all-own (T.the-type α .parts) (T′.the-laws α) (x, (n, tt)))))
@@ -207,8 +208,8 @@ module _ (B₁ : ByValue) (L₁ : ByValueLaws B₁) (B₂ : ByValue) (L₂ : ByV
             land ! (from ! (stop !)) (init ! 8 refl (LL.lawful P.the-type P′.the-laws 𝓤 H A W .typed r _ is .0)) $
             rewrite ! 8 (λ (u : Val). ‵ (fat fullShare P′.mir l₇ 0 u)) (ap only (LL.tells P.the-type P′.the-laws r _ is)) refl $ drop ! $
             -- [what the samples' borrow owns; the struct's cell; the open borrow; obs; auth; the inner token; the arguments'; _7; …; _6; …; _5; …; _4; …; _3; …; _2; …; _1; …; room for _0; …]
-            assigns ! (of-opd ! (load ! (from ! (stop !)) (look ! 7 refl))) (from ! (hop ! (look ! 19 refl) (fld ! refl (fld ! refl (fld ! refl (stop !))))))
-            (store-in ! 1 (sub ! 1 refl (sub ! 1 refl (sub ! 1 refl (whole !))))
+            assigns ! (of-opd ! (load ! (from ! (stop !)) (look ! 7 refl))) (from ! (hop ! (look ! 19 refl) (fld ! answer-at (fld ! state-at (fld ! port-at (stop !))))))
+            (store-in ! 1 (sub ! 1 port-at (sub ! 1 state-at (sub ! 1 answer-at (whole !))))
             (LL.lawful P.the-type P′.the-laws 𝓤 H A W .typed r _ (subst (Is P.the-row r) (LL.tells P.the-type P′.the-laws r _ is) is) .0)) $
             assigns ! (of-opd ! (unit-lit !)) (from ! (stop !)) (init ! 21 refl (tt, tt)) $
             -- the struct is put together again, with the new port, and the outer borrow is closed

@@ -64,7 +64,7 @@ use Rattle.held.proofs.Signal.Laws as T′
 use Rattle.held.proofs.Again.{LentAgain, lends-again, comes-back}
 use Rattle.laws.proofs.ByValue.{ByValue, ByValueLaws, rowOf, goes-by-value, valsOf}
 use Rattle.held.proofs.Lent as Lent
-use Rattle.held.proofs.Lent.{slice, lent, SignalS, sv, av, had, said}
+use Rattle.held.proofs.Lent.{slice, lent, SignalS, sv, av, had, said, samples-at, pointer-at, count-at, answer-at, state-at}
 
 abbrev pub stepFn : Ty → Name → Fn
 stepFn τ f = record {
@@ -198,11 +198,13 @@ module _ (B : ByValue) (L : ByValueLaws B) where
             use1 W (‵ (fat fullShare (T′.mir erased) b o (mach n))) (W .laws .raw-at fullShare (T′.mir erased) b o (mach n)) $
             move ! (1 ∷ []) $ peeks ! R (Is R) (shows 𝓤 H A R) (h ys n) (mach n ∷ []) (λ g. move ! (1 ∷ 0 ∷ []) $
             -- [the struct's cell; what the struct owns; the open borrow; obs; auth; the inner token; the argument's; _7; …; _6; …; _5; …; _4; …; _3; …; _2; …; _1; …; room for _0; …]
-            assigns ! (of-opd ! (load ! (from ! (hop ! (look ! 19 refl) (fld ! refl (fld ! refl (stop !))))) (look-in ! 0 (sub ! 1 refl (sub ! 1 refl (whole !)))))) (from ! (stop !))
+            assigns ! (of-opd ! (load ! (from ! (hop ! (look ! 19 refl) (fld ! answer-at (fld ! state-at (stop !))))) (look-in ! 0 (sub ! 1 state-at (sub ! 1 answer-at (whole !)))))) (from ! (stop !))
             (init ! 15 refl (LL.lawful S.the-type S′.the-laws 𝓤 H A W .typed (n .state) _ (state-is g) .0)) $
-            assigns ! (of-opd ! (load ! (from ! (hop ! (look ! 19 refl) (fld ! refl (fld ! refl (stop !))))) (look-in ! 0 (sub ! 1 refl (sub ! 0 refl (whole !)))))) (from ! (stop !))
+            assigns ! (of-opd ! (load ! (from ! (hop ! (look ! 19 refl) (fld ! samples-at (fld ! count-at (stop !))))) (look-in ! 0 (sub ! 1 count-at (sub ! 0 samples-at (whole !))))))
+            (from ! (stop !))
             (init ! 11 refl (tt, record { fits = room g .0 })) $
-            assigns ! (addr ! (from ! (hop ! (look ! 19 refl) (fld ! refl (fld ! refl (hop ! (look-in ! 0 (sub ! 0 refl (sub ! 0 refl (whole !)))) (stop !))))))) (from ! (stop !))
+            assigns ! (addr ! (from ! (hop ! (look ! 19 refl) (fld ! samples-at (fld ! pointer-at (hop ! (look-in ! 0 (sub ! 0 pointer-at (sub ! 0 samples-at (whole !)))) (stop !)))))))
+            (from ! (stop !))
             (init ! 9 refl (tt, tt)) $
             assigns ! (agg ! (and-then ! (load ! (from ! (stop !)) (look ! 9 refl)) (and-then ! (load ! (from ! (stop !)) (look ! 11 refl)) (no-more !)))) (from ! (stop !))
             (init ! 7 refl (tt, (tt, (record { fits = room g .0 }, tt)))) $
@@ -229,8 +231,8 @@ module _ (B : ByValue) (L : ByValueLaws B) where
             use3 W (later (‵ (MutSlice (named 1) κ′ f32 .own (x γ′ (zs .1 .1 .0)) (s ∷ [])) ⊛ ‵ (flft κ′ q′)))
             (comes-back f32 κ′ (ν ∷ []) q′ γ′ b′ o′ 𝓤 H A W (named 1) (named 0) ys δ (zs .1 .1 .0) (room g) l) $ await ! tt $ split ! $
             -- [what the samples' borrow owns; the inner token; …; the struct's cell; the open borrow; obs; auth; the argument's; _7; …; _6; …; _5; …; _4; …; _3; …; _2; …; _1; …; room for _0; …]
-            assigns ! (of-opd ! (load ! (from ! (stop !)) (look ! 18 refl))) (from ! (hop ! (look ! 24 refl) (fld ! refl (stop !))))
-            (store-in ! 7 (sub ! 1 refl (whole !)) (LL.lawful N.the-type N′.the-laws 𝓤 H A W .typed r _ (said r w is) .0)) $
+            assigns ! (of-opd ! (load ! (from ! (stop !)) (look ! 18 refl))) (from ! (hop ! (look ! 24 refl) (fld ! answer-at (stop !))))
+            (store-in ! 7 (sub ! 1 answer-at (whole !)) (LL.lawful N.the-type N′.the-laws 𝓤 H A W .typed r _ (said r w is) .0)) $
             assigns ! (of-opd ! (unit-lit !)) (from ! (stop !)) (init ! 26 refl (tt, tt)) $
             -- the struct is put together again, at the new record, and the outer borrow is closed
             nothing ! $ owned ! N.the-row (Is N.the-row) (LL.makes N.the-type N′.the-plain 𝓤 H A) r _ (said r w is) $ fjoin ! $ move ! (1 ∷ 0 ∷ []) $ fjoin ! $

@@ -48,7 +48,7 @@ use Rattle.held.proofs.Signal as T
 use Rattle.held.proofs.Signal.Laws as T′
 use Rattle.laws.proofs.ByValue.{ByValue, ByValueLaws, rowOf, goes-by-value, valsOf}
 use Rattle.held.proofs.Lent as Lent
-use Rattle.held.proofs.Lent.{slice, av, answer-is}
+use Rattle.held.proofs.Lent.{slice, av, answer-is, answer-at}
 use Rattle.sequences.proofs.Callees.{makingEnded, makingClauses, Making, making-of, Setting}
 use Rattle.sequences.proofs.Lending.{passed, lent, unit-typed, behind, R, val, typed, withheld, goes-lent}
 use Rattle.sequences.proofs.Setting.{to-setting, asked, settled}
@@ -231,7 +231,7 @@ module _ (B₁ : ByValue) (L₁ : ByValueLaws B₁) (B₂ : ByValue) (L₂ : ByV
               land ! (from ! (stop !)) (store ! 9 refl (unit-typed w₂ e₂)) $
               -- the answer is handed out
               move ! (1 ∷ []) $ peeks ! (R κ) (Is (R κ)) (shows 𝓤 H A (R κ)) (h l₂) (val κ (h l₂) ∷ []) (λ is₂. move ! (1 ∷ 0 ∷ []) $
-              assigns ! (of-opd ! (load ! (from ! (fld ! refl (stop !))) (look-in ! 0 (sub ! 1 refl (whole !))))) (from ! (stop !))
+              assigns ! (of-opd ! (load ! (from ! (fld ! answer-at (stop !))) (look-in ! 0 (sub ! 1 answer-at (whole !))))) (from ! (stop !))
               (init ! 30 refl (LL.lawful N.the-type N′.the-laws 𝓤 H A W .typed (l₂ .answer) _ (answer-is (behind κ) (h l₂) (val κ (h l₂)) is₂) .0)) $
               returns ! (look ! 30 refl) $ forget ! 0 refl $ forget ! 5 refl $ forget ! 7 refl $ forget ! 9 refl $ forget ! 11 refl $ forget ! 13 refl $ forget ! 15 refl $ forget ! 18 refl $
               forget ! 20 refl $ forget ! 22 refl $ forget ! 24 refl $ forget ! 26 refl $ forget ! 28 refl $ forget ! 30 refl $

@@ -32,7 +32,7 @@ use Rattle.signal.proofs.Answer.Laws as N′
 use Rattle.held.specs.declared.Signal.{Signal}
 use Rattle.held.proofs.Signal.Laws as T′
 use Rattle.laws.proofs.ByValue.{ByValue, ByValueLaws, rowOf}
-use Rattle.held.proofs.Lent.{av, answer-is}
+use Rattle.held.proofs.Lent.{av, answer-is, answer-at}
 use Rattle.sequences.proofs.Callees.{answer, answer-laws, Making, Setting, Resetting}
 use Rattle.sequences.proofs.Lending.{unit-typed, behind, R, val, withheld, goes-lent}
 use Rattle.sequences.proofs.Resetting.{to-resetting, asked, settled}
@@ -78,7 +78,7 @@ module _ (B₁ : ByValue) (L₁ : ByValueLaws B₁) (B₂ : ByValue) (L₂ : ByV
         land ! (from ! (stop !)) (store ! 9 refl (unit-typed w₂ e)) $
         -- the answer is handed out
         move ! (1 ∷ []) $ peeks ! (R κ) (Is (R κ)) (shows 𝓤 H A (R κ)) g′ (val κ g′ ∷ []) (λ is. move ! (1 ∷ 0 ∷ []) $
-        assigns ! (of-opd ! (load ! (from ! (fld ! refl (stop !))) (look-in ! 0 (sub ! 1 refl (whole !))))) (from ! (stop !))
+        assigns ! (of-opd ! (load ! (from ! (fld ! answer-at (stop !))) (look-in ! 0 (sub ! 1 answer-at (whole !))))) (from ! (stop !))
         (init ! 28 refl (LL.lawful N.the-type N′.the-laws 𝓤 H A W .typed (l′ .answer) _ (answer-is (behind κ) g′ (val κ g′) is) .0)) $
         returns ! (look ! 28 refl) $ forget ! 0 refl $ forget ! 5 refl $ forget ! 7 refl $ forget ! 9 refl $ forget ! 11 refl $ forget ! 13 refl $ forget ! 15 refl $ forget ! 18 refl $
         forget ! 20 refl $ forget ! 22 refl $ forget ! 24 refl $ forget ! 26 refl $ forget ! 28 refl $
