@@ -2,7 +2,8 @@
 // has; the number of what is called, which is 01's item or, for sequences on a signal that keeps its samples, 12, and which of the calls; then four times
 // a count and so many words, for the numbers that the call is given, two slices, and a slice that it may write to; what it answered (said.rt), and that
 // slice afterwards. A slice of more than ROOM places stands in the line as one word (lists.rt). The loop over a file's lines stands in each program, which
-// alone knows its calls: no function can be handed to another.
+// alone knows its calls: no function can be handed to another. This is a test and no part of what is linked: its functions are proved safe and ending,
+// and say nothing of what they answer. That they see a difference is tried by the cases whose answer is wrong.
 pub mod files;
 pub mod lists;
 pub mod made;
