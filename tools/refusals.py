@@ -4,6 +4,7 @@ An edit after which a need of the proof has no name any more, or has another's p
 only made the proof unfit for the code and shows nothing: such a one is marked WEAK, and the program ends with status 1. An edit with
 lines '# refuses: F G ..' makes one wrong change in each of these functions, or one that each of these laws is about, and is WEAK unless each was refused.
 An edit whose log has no error, or that has no log, counts as WEAK too. Logs of an earlier run are not told from those of the last.
+Whether the changed program is a wrong one is for whoever writes the edit to see: another right program may be refused just as well.
 usage: refusals.py [CRATE..]   in the repository's root"""
 import pathlib
 import re
@@ -28,7 +29,7 @@ for path in sorted(pathlib.Path("crates").glob("*/must-fail/*.edit")):
     # refused for itself, and not only because a function that it calls was
     own = r"^fn \S*::{0}: (?:not proved$|no proof: .*does not close)|/(?:{0}/Proof\.antt:\d+:\d+: error: |\w+\.antt:\d+:\d+: error: `{0}`: )(?!.*was not admitted)"
     passed = [f for f in " ".join(named).split() if not re.search(own.format(f), text, re.M)]
-    mark = "WEAK" if WEAK.search(text) or passed or not errors else "ok"
+    mark = "WEAK" if WEAK.search(re.sub(r"\s+", " ", text)) or passed or not errors else "ok"
     weak += mark == "WEAK"
     where, why = errors[0] if errors else ("", "no error was found in the log")
     print(f"{mark:4} {crate}/{label}: {where}: {why[:160]}" + (f" NOT REFUSED: {' '.join(passed)}" if passed else ""))

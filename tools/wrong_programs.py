@@ -3,9 +3,12 @@
 names none, as where it changes a definition), name, and a short hash of its changes.
 A line '# name: what is wrong' begins a program, and the texts from there to the next such line are its changes; a line '# refuses: ..' among
 them is its own. Names in a row share the changes that follow, which a * after the hash says. An edit without names is one program, by its label.
-Of two trees it shows the names that are gone, new or in another crate, and those whose changes differ: what was taken away, and what has come.
-Ends with status 1 if a name is gone, if one stands twice in a crate, or if one function is to be refused for two programs of one edit.
+Of two trees it shows the names that are gone, new or in another crate, those whose changes differ (what was taken away, and what has come), and the
+functions that fewer edits name as refused.
+Ends with status 1 if a name is gone, if a function is named by fewer edits, if a name stands twice in a crate, or if one function is to be refused
+for two programs of one edit.
 usage: wrong_programs.py [TREE] | wrong_programs.py BEFORE AFTER   in the repository's root; a tree is a commit or a folder"""
+import collections
 import dataclasses
 import hashlib
 import io
@@ -81,6 +84,11 @@ def programs(tree):
     return found, twice
 
 
+def named(tree):
+    """By how many edits each function or law is named as refused, whatever its crate."""
+    return collections.Counter(f for _, label, text in edits(tree) for f in {f for program in programs_of(label, text) for f in program.refuses + program.of_edit})
+
+
 def compared(before, after):
     """Shows what became of the programs; the number of names that are gone."""
     gone, shown, differ = 0, set(), []
@@ -123,8 +131,10 @@ if len(trees) == 1:
 else:
     before, after = (tree[0] for tree in trees)
     gone = compared(before, after)
-    print(f"{len(before)} wrong programs before, {len(after)} after, {gone} gone")
-    status = int(gone > 0)
+    was, now = named(sys.argv[1]), named(sys.argv[2])
+    less = [f"less     {f}: refused in {was[f]} edits before, {now[f]} after" for f in was if now[f] < was[f]]
+    print("\n".join(less + [f"{len(before)} wrong programs before, {len(after)} after, {gone} gone; {len(less)} functions refused in fewer edits"]))
+    status = int(gone + len(less) > 0)
 for what in trees[-1][1]:
     print(f"twice    {what}")
     status = 1

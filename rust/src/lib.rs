@@ -56,7 +56,7 @@ pub enum Refusal {
     /// A register is negative or would pass its limit.
     RegisterFull = 11,
     /// The bytes are no file of the kind that is read.
-    NoSuchFile = 12,
+    NotSuchFile = 12,
     /// The slices have other lengths than at the first call.
     OtherLengths = 13,
     /// A number of no table. The library answers none.
@@ -78,7 +78,7 @@ fn answered<T>(code: u8, answer: T) -> Result<T, Refusal> {
         9 => Refusal::UnknownEdition,
         10 => Refusal::NoSuchRegister,
         11 => Refusal::RegisterFull,
-        12 => Refusal::NoSuchFile,
+        12 => Refusal::NotSuchFile,
         13 => Refusal::OtherLengths,
         _ => Refusal::Unknown,
     })
@@ -91,8 +91,24 @@ mod tests {
     #[test]
     fn every_number_has_its_name() {
         assert_eq!(answered(0, 7), Ok(7));
-        for code in 1..=13 {
-            assert_eq!(answered(code, ()).map_err(|refusal| refusal as u8), Err(code));
+        let table = [
+            Refusal::LengthsDiffer,
+            Refusal::OutputShort,
+            Refusal::TooLong,
+            Refusal::OffGrid,
+            Refusal::WrongForm,
+            Refusal::WrongSum,
+            Refusal::WrongSequence,
+            Refusal::BinOutside,
+            Refusal::UnknownEdition,
+            Refusal::NoSuchRegister,
+            Refusal::RegisterFull,
+            Refusal::NotSuchFile,
+            Refusal::OtherLengths,
+        ];
+        for (code, name) in (1..=13).zip(table) {
+            assert_eq!(answered(code, ()), Err(name));
+            assert_eq!(name as u8, code);
         }
         for code in 14..=255 {
             assert_eq!(answered(code, ()), Err(Refusal::Unknown));

@@ -1,6 +1,6 @@
 -- What a call leaves behind: its answer, and what the places lent to it hold afterwards. Definitions only.
 
--- 01, "the contract determines the answer and all lent contents afterwards, refused calls too". B is a list for one lent slice, and a pair of lists for two
+-- 01, "the contract determines the answer and all lent contents afterwards, refused calls too". B is a list for one lent slice, a pair of lists for two, or the record that was lent
 pub record Left (A B : Type 0) : Type 0 where
   pub answer : A
   pub places : B

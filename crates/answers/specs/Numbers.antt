@@ -4,7 +4,7 @@ use mathlib.Core.Bool.{Bool, true, false, cond}
 use lib.Dec.{ltb, eqb}
 use Rattle.answers.specs.declared.Outcome.{Outcome}
 use Rattle.answers.specs.declared.Outcome.the-variants.{Done, LengthsDiffer, OutputShort, TooLong, OffGrid, WrongForm, WrongSum, WrongSequence, BinOutside, UnknownEdition, NoSuchRegister}
-use Rattle.answers.specs.declared.Outcome.the-variants.{RegisterFull, NoSuchFile, OtherLengths}
+use Rattle.answers.specs.declared.Outcome.the-variants.{RegisterFull, NotSuchFile, OtherLengths}
 
 -- 01, 'Numbers a call can return': the number of each row of the table
 abbrev pub numberOf : Outcome → ℕ
@@ -21,7 +21,7 @@ numberOf BinOutside = 8
 numberOf UnknownEdition = 9
 numberOf NoSuchRegister = 10
 numberOf RegisterFull = 11
-numberOf NoSuchFile = 12
+numberOf NotSuchFile = 12
 numberOf OtherLengths = 13
 
 -- 01, row 0, "done", and "Nothing but 0 writes to what was lent": what a call gives or leaves where it is done, and what where it is refused

@@ -14,7 +14,7 @@ pub enum Outcome {
     UnknownEdition,
     NoSuchRegister,
     RegisterFull,
-    NoSuchFile,
+    NotSuchFile,
     OtherLengths,
 }
 
@@ -53,7 +53,7 @@ pub fn number_of(o: Outcome) -> u8
         Outcome::UnknownEdition => 9,
         Outcome::NoSuchRegister => 10,
         Outcome::RegisterFull => 11,
-        Outcome::NoSuchFile => 12,
+        Outcome::NotSuchFile => 12,
         Outcome::OtherLengths => 13,
     }
 }

@@ -433,7 +433,9 @@ impl<'a> Signal<'a> {
         current_max: f32,
         power_max: f32,
     )
-        ensures { λ _. ⌜ now (self .exit) ≡ withField (withField (withField (withField (now (self .entry)) Fields.at-voltage-min (number «voltage_min»)) Fields.at-voltage-max (number «voltage_max»)) Fields.at-current-max (number «current_max»)) Fields.at-power-max (number «power_max») ⌝ }
+        ensures { λ _. ⌜ now (self .exit) ≡ withField (withField (withField (withField (now (self .entry))
+            Fields.at-voltage-min (number «voltage_min»)) Fields.at-voltage-max (number «voltage_max»))
+            Fields.at-current-max (number «current_max»)) Fields.at-power-max (number «power_max») ⌝ }
     {
         let port = self.answer.state.port;
         let next = port.set_limits(voltage_min, voltage_max, current_max, power_max);

@@ -31,7 +31,8 @@ pub fn shaped(
     phase: f32,
     samples: &mut [f32],
 ) -> Answer
-    ensures { λ r. ⌜ left r (now (samples .exit)) ≡ Sequence.run highest (newOf highest wave amplitude frequency (now (samples .entry))) (Sequence.setting (Sequence.duty «duty_cycle») ∷ Sequence.setting (Sequence.phase phase) ∷ []) ⌝ }
+    ensures { λ r. ⌜ left r (now (samples .exit))
+        ≡ Sequence.run highest (newOf highest wave amplitude frequency (now (samples .entry))) (Sequence.setting (Sequence.duty «duty_cycle») ∷ Sequence.setting (Sequence.phase phase) ∷ []) ⌝ }
 {
     let mut signal = Signal::new(wave, amplitude, frequency, samples);
     signal.set_duty_cycle(duty_cycle);
@@ -47,7 +48,8 @@ pub fn emptied(
     phase: f32,
     samples: &mut [f32],
 ) -> Answer
-    ensures { λ r. ⌜ left r (now (samples .exit)) ≡ Sequence.run highest (newOf highest wave amplitude frequency (now (samples .entry))) (Sequence.setting (Sequence.phase phase) ∷ Sequence.reset ∷ []) ⌝ }
+    ensures { λ r. ⌜ left r (now (samples .exit))
+        ≡ Sequence.run highest (newOf highest wave amplitude frequency (now (samples .entry))) (Sequence.setting (Sequence.phase phase) ∷ Sequence.reset ∷ []) ⌝ }
 {
     let mut signal = Signal::new(wave, amplitude, frequency, samples);
     signal.set_phase(phase);
@@ -64,7 +66,8 @@ pub fn measured(
     duty_cycle: f32,
     samples: &mut [f32],
 ) -> MetricsAnswer
-    ensures { λ r. ⌜ left r (now (samples .exit)) ≡ answeredAs metricsTold (Sequence.run highest (newOf highest wave amplitude frequency (now (samples .entry))) (Sequence.setting (Sequence.duty «duty_cycle») ∷ [])) ⌝ }
+    ensures { λ r. ⌜ left r (now (samples .exit))
+        ≡ answeredAs metricsTold (Sequence.run highest (newOf highest wave amplitude frequency (now (samples .entry))) (Sequence.setting (Sequence.duty «duty_cycle») ∷ [])) ⌝ }
 {
     let outcome = spectrum::parts::judged(samples.len(), false);
     let metrics = parts::metrics_after(wave, amplitude, frequency, duty_cycle, samples);

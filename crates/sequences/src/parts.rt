@@ -21,7 +21,8 @@ pub fn metrics_after(
     duty_cycle: f32,
     samples: &mut [f32],
 ) -> Metrics
-    ensures { λ r. ⌜ left r (now (samples .exit)) ≡ answeredAs metricsIn (Sequence.run highest (newOf highest wave amplitude frequency (now (samples .entry))) (Sequence.setting (Sequence.duty «duty_cycle») ∷ [])) ⌝ }
+    ensures { λ r. ⌜ left r (now (samples .exit))
+        ≡ answeredAs metricsIn (Sequence.run highest (newOf highest wave amplitude frequency (now (samples .entry))) (Sequence.setting (Sequence.duty «duty_cycle») ∷ [])) ⌝ }
 {
     let mut signal = Signal::new(wave, amplitude, frequency, samples);
     signal.set_duty_cycle(duty_cycle);
