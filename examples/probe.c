@@ -27,7 +27,7 @@ int main(void) {
   tj_figure slew = tj_slew_rate(voltage, n, 1000.0f);
   if (power.code != 0 || slew.code != 0)
     return 1;
-  printf("%zu pairs, p %g q %g s %g pf %g, slew rate %g\n", n, (double)power.power.p, (double)power.power.q,
+  printf("%zu pairs, p %g nonactive %g s %g pf %g, slew rate %g\n", n, (double)power.power.p, (double)power.power.nonactive,
          (double)power.power.s, (double)power.power.pf, (double)slew.value);
 
   pairs_of("00010200640032FF9CFFCEFE\n", volts, amps); /* its sum is wrong */

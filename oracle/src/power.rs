@@ -19,7 +19,7 @@ fn of_codes(volts: &[i16], amps: &[i16]) -> PowerAnswer {
 }
 
 fn list(power: Power) -> [f32; 4] {
-    [power.p, power.q, power.s, power.pf]
+    [power.p, power.nonactive, power.s, power.pf]
 }
 
 // ---------------------------------------------------------------------------- against the Rust
@@ -231,7 +231,7 @@ fn sentences(volts: &[i16], amps: &[i16], r: Power, worst: &mut [f64; 5]) -> [bo
     let sum = |x: &[i16], y: &[i16]| x.iter().zip(y).map(|(a, b)| *a as i64 * *b as i64).sum::<i64>();
     let (v, i, w) = (sum(volts, volts) as u64, sum(amps, amps) as u64, sum(volts, amps));
     let size = w.unsigned_abs();
-    let (p, q, s, pf) = (fraction(r.p), fraction(r.q), fraction(r.s), fraction(r.pf));
+    let (p, q, s, pf) = (fraction(r.p), fraction(r.nonactive), fraction(r.s), fraction(r.pf));
     let right_way = w == 0 || r.p == 0.0 || (r.p < 0.0) == (w < 0);
     let product = Big::of(v).times(i);
     let square = Big::of(size).times(size);
@@ -246,7 +246,7 @@ fn sentences(volts: &[i16], amps: &[i16], r: Power, worst: &mut [f64; 5]) -> [bo
         &mut worst[1],
     );
     let t = product.shifted(2 * q.down);
-    let reactive = within(
+    let nonactive = within(
         Big::of(n * n).times(q.digits).times(q.digits).shifted(2 * q.up),
         product.less(square).shifted(2 * q.down),
         t,
@@ -277,7 +277,7 @@ fn sentences(volts: &[i16], amps: &[i16], r: Power, worst: &mut [f64; 5]) -> [bo
     [
         active && right_way,
         apparent,
-        reactive,
+        nonactive,
         factor,
         sign && low.at_most(high),
     ]
@@ -355,7 +355,7 @@ fn bounds(rounds: u64, log: &mut Log) {
     let checks = [
         log.check("codes: n p within |W| / 2^23 of W"),
         log.check("codes: n² s² within V I / 2^21 of V I"),
-        log.check("codes: n² q² within V I / 2^20 of V I - W²"),
+        log.check("codes: n² q² within V I / 2^20 of V I - W², where q is nonactive"),
         log.check("codes: pf² V I within W² / 2^20 of W²"),
         log.check("codes: pf with the sign of W, at most 1 + 1 / 2^21"),
     ];

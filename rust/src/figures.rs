@@ -2,14 +2,14 @@
 
 use crate::{answered, raw, Refusal, Wave};
 
-/// Active, reactive and apparent power, and the power factor.
+/// Active, nonactive and apparent power, and the power factor.
 #[derive(Clone, Copy, Debug, Default, PartialEq)]
 #[repr(C)]
 pub struct Power {
     /// Active power: the mean of voltage times current.
     pub p: f32,
-    /// Reactive power: the root of s² - p².
-    pub q: f32,
+    /// Nonactive power, by IEEE 1459: the root of s² - p². It is not the reactive power of a phase shift: a distorted current has it with no phase shift.
+    pub nonactive: f32,
     /// Apparent power: the product of the root mean squares.
     pub s: f32,
     /// The power factor, p / s; 0 where s is not above 1e-12.
@@ -84,11 +84,11 @@ pub fn slew_rate(samples: &[f32], sample_rate: f32) -> Result<f32, Refusal> {
 }
 
 /// Power of a voltage and a current capture. For captures of 16-bit codes the figures are proved to be within the bounds of the exact ones that docs/PROMISES.md gives;
-/// a NaN sample gives NaN for p and s and 0 for q and pf. [`Refusal::TooLong`], then [`Refusal::LengthsDiffer`].
+/// a NaN sample gives NaN for p and s and 0 for nonactive and pf. [`Refusal::TooLong`], then [`Refusal::LengthsDiffer`].
 ///
 /// ```
 /// use tilljingle::{compute_power, Power, Refusal};
-/// assert_eq!(compute_power(&[3.0], &[-3.0], 1.0), Ok(Power { p: -9.0, q: 0.0, s: 9.0, pf: -1.0 }));
+/// assert_eq!(compute_power(&[3.0], &[-3.0], 1.0), Ok(Power { p: -9.0, nonactive: 0.0, s: 9.0, pf: -1.0 }));
 /// assert_eq!(compute_power(&[1.0, 2.0], &[1.0], 1.0), Err(Refusal::LengthsDiffer));
 /// ```
 pub fn compute_power(voltage: &[f32], current: &[f32], sample_rate: f32) -> Result<Power, Refusal> {
@@ -108,7 +108,7 @@ pub fn compute_power(voltage: &[f32], current: &[f32], sample_rate: f32) -> Resu
 ///
 /// ```
 /// use tilljingle::{power_of_codes, Power};
-/// assert_eq!(power_of_codes(&[3], &[-3]), Ok(Power { p: -9.0, q: 0.0, s: 9.0, pf: -1.0 }));
+/// assert_eq!(power_of_codes(&[3], &[-3]), Ok(Power { p: -9.0, nonactive: 0.0, s: 9.0, pf: -1.0 }));
 /// ```
 pub fn power_of_codes(volts: &[i16], amps: &[i16]) -> Result<Power, Refusal> {
     let answer = unsafe { raw::tj_power_of_codes(volts.as_ptr(), volts.len(), amps.as_ptr(), amps.len()) };

@@ -92,7 +92,7 @@ fn a_nan_and_too_many_samples() {
     let blown = f32::from_bits(u32::MAX);
     let power = compute_power(&[blown], &[1.0], 1.0).unwrap();
     assert!(power.p.is_nan() && power.s.is_nan());
-    assert_eq!((power.q, power.pf), (0.0, 0.0));
+    assert_eq!((power.nonactive, power.pf), (0.0, 0.0));
     let mut samples = vec![1.0; 65_537];
     assert_eq!(scale(&mut samples, 2.0), Err(Refusal::TooLong));
     assert!(samples.iter().all(|&x| x == 1.0));

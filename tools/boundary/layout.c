@@ -19,7 +19,7 @@ AT(tj_figure, value, 4);
 
 LONG(tj_power, 16);
 AT(tj_power, p, 0);
-AT(tj_power, q, 4);
+AT(tj_power, nonactive, 4);
 AT(tj_power, s, 8);
 AT(tj_power, pf, 12);
 

@@ -63,10 +63,10 @@ void check_samples(void) {
   check_timing();
 }
 
-static void power_is(tj_power_answer got, unsigned code, float p, float q, float s, float pf) {
+static void power_is(tj_power_answer got, unsigned code, float p, float nonactive, float s, float pf) {
   IS(got.code, code);
   IS(got.power.p, p);
-  IS(got.power.q, q);
+  IS(got.power.nonactive, nonactive);
   IS(got.power.s, s);
   IS(got.power.pf, pf);
 }

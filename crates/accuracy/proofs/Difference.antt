@@ -1,4 +1,4 @@
--- Reactive power: the square of the root of x - y, where x and y are near V I / n² and W² / n². Assumes nothing.
+-- Nonactive power: the square of the root of x - y, where x and y are near V I / n² and W² / n². Assumes nothing.
 use mathlib.Core.Path.{_≡_, refl, sym, ap, ap₂, _∙_, subst, subst₂}
 use mathlib.Core.Bool.{Bool, true, false, not, cond, true≢false, _&&_}
 use Prim.Native.Nat.{ℕ, zero, suc, _+_, _-_, _*_, _%_, _^_, _≤_, _<_}

@@ -106,7 +106,7 @@ square-found x b a n l h k l' h' k' A B f g g' c₁ c₂ c₃ c₄ =
           (size-times (num x) (den x) A B (num x) (den x) A B (f .size) (f .size));
     }
 
--- ---- reactive power: v is V I, w is W², and N is n²
+-- ---- nonactive power: v is V I, w is W², and N is n²
 -- what is known of p²: near w / N, also where both are 0
 pub record Minus (y : Float) (w N : ℕ) : Type 0 where
   pub is : Signed y false
@@ -114,20 +114,20 @@ pub record Minus (y : Float) (w N : ℕ) : Type 0 where
   pub few : den y ≤ 2 ^ 90
 
 -- q is a number, and its square is near v - w
-abbrev pub Reactive : Float → ℕ → ℕ → ℕ → Type 0
-Reactive q v w N = Number q × (gap (N * (num q * num q) + w * (den q * den q)) (v * (den q * den q)) * 2 ^ 20 ≤ v * (den q * den q))
+abbrev pub Nonactive : Float → ℕ → ℕ → ℕ → Type 0
+Nonactive q v w N = Number q × (gap (N * (num q * num q) + w * (den q * den q)) (v * (den q * den q)) * 2 ^ 20 ≤ v * (den q * den q))
 
-pub reactive-none : (v w N : ℕ) → gap w v * 2 ^ 20 ≤ v → Reactive (fin false 0 (pos 0)) v w N
-reactive-none v w N h = (tt, omega arith)
+pub nonactive-none : (v w N : ℕ) → gap w v * 2 ^ 20 ≤ v → Nonactive (fin false 0 (pos 0)) v w N
+nonactive-none v w N h = (tt, omega arith)
 
-pub reactive-bound : (x y : Float) (v w N : ℕ) → Found x false v N (2 ^ 28 - 102) (2 ^ 28 + 102) (2 ^ 28) (2 ^ 47) (2 ^ 107) → den x ≤ 2 ^ 100 → Minus y w N → w ≤ v
-    → Reactive (narrowedRoot (aboveZero (sub binary64 x y))) v w N
-reactive-bound x y v w N f g m l = go (leb (num x * den y) (num y * den x)) (leb→le (num x * den y) (num y * den x)) (nleb→lt (num x * den y) (num y * den x))
+pub nonactive-bound : (x y : Float) (v w N : ℕ) → Found x false v N (2 ^ 28 - 102) (2 ^ 28 + 102) (2 ^ 28) (2 ^ 47) (2 ^ 107) → den x ≤ 2 ^ 100 → Minus y w N → w ≤ v
+    → Nonactive (narrowedRoot (aboveZero (sub binary64 x y))) v w N
+nonactive-bound x y v w N f g m l = go (leb (num x * den y) (num y * den x)) (leb→le (num x * den y) (num y * den x)) (nleb→lt (num x * den y) (num y * den x))
   where
-    go : (t : Bool) → (T t → num x * den y ≤ num y * den x) → (T (not t) → num y * den x < num x * den y) → Reactive (narrowedRoot (aboveZero (sub binary64 x y))) v w N
+    go : (t : Bool) → (T t → num x * den y ≤ num y * den x) → (T (not t) → num y * den x < num x * den y) → Nonactive (narrowedRoot (aboveZero (sub binary64 x y))) v w N
     go true a b =
-        subst (λ (q : Float). Reactive q v w N) (sym (difference-none x y (f .is) (m .is) (a tt)))
-        (reactive-none v w N (none-bound (num x) (den x) (num y) (den y) v w N (den-pos x) (den-pos y) (f .ratio) (m .ratio) (a tt) l))
+        subst (λ (q : Float). Nonactive q v w N) (sym (difference-none x y (f .is) (m .is) (a tt)))
+        (nonactive-none v w N (none-bound (num x) (den x) (num y) (den y) v w N (den-pos x) (den-pos y) (f .ratio) (m .ratio) (a tt) l))
     go false a b =
         let d = difference-some x y (f .is) (m .is) g (m .few) (f .size .most) (b tt) in
         let q = narrowedRoot (aboveZero (sub binary64 x y)) in (

@@ -57,9 +57,9 @@ ActiveNear k n w p = Within (pos n *ℤ value p) (w *ℤ pos (den p)) (natAbs w 
 abbrev pub ApparentNear : ℕ → ℕ → ℕ → ℕ → Float → Type 0
 ApparentNear k n v i s = Within (pos (squared n * squared (num s))) (pos (v * i * squared (den s))) (v * i * squared (den s)) k
 
--- n² q² is within V I / 2^k of V I - W²
-abbrev pub ReactiveNear : ℕ → ℕ → ℕ → ℕ → ℤ → Float → Type 0
-ReactiveNear k n v i w q = Within (pos (squared n * squared (num q))) (pos (v * i * squared (den q)) -ℤ pos (squared (natAbs w) * squared (den q))) (v * i * squared (den q)) k
+-- n² q² is within V I / 2^k of V I - W², where q is nonactive
+abbrev pub NonactiveNear : ℕ → ℕ → ℕ → ℕ → ℤ → Float → Type 0
+NonactiveNear k n v i w q = Within (pos (squared n * squared (num q))) (pos (v * i * squared (den q)) -ℤ pos (squared (natAbs w) * squared (den q))) (v * i * squared (den q)) k
 
 -- pf² V I is within W² / 2^k of W²
 abbrev pub FactorNear : ℕ → ℕ → ℕ → ℤ → Float → Type 0
@@ -73,15 +73,15 @@ SignOf w f = sign (value f) ≡ sign w
 abbrev pub AtMost : ℕ → Float → Type 0
 AtMost k f = num f * 2 ^ k ≤ (2 ^ k + 1) * den f
 
--- demand 3's powers of two: how near p, s, q and pf are, and by how much the size of pf may be above 1
+-- demand 3's powers of two: how near p, s, nonactive and pf are, and by how much the size of pf may be above 1
 abbrev pub near-p : ℕ
 near-p = 23
 
 abbrev pub near-s : ℕ
 near-s = 21
 
-abbrev pub near-q : ℕ
-near-q = 20
+abbrev pub near-nonactive : ℕ
+near-nonactive = 20
 
 abbrev pub near-pf : ℕ
 near-pf = 20
@@ -93,10 +93,10 @@ most-pf = 21
 pub record Bounds (n v i : ℕ) (w : ℤ) (r : Power) : Type 0 where
   pub active : ActiveNear near-p n w (r .p)
   pub apparent : ApparentNear near-s n v i (r .s)
-  pub reactive : ReactiveNear near-q n v i w (r .q)
+  pub nonactive : NonactiveNear near-nonactive n v i w (r .nonactive)
   pub factor : FactorNear near-pf v i w (r .pf)
   pub signed : SignOf w (r .pf) × AtMost most-pf (r .pf)
-  pub numbers : T (finite (r .p)) × T (finite (r .q)) × T (finite (r .s)) × T (finite (r .pf))
+  pub numbers : T (finite (r .p)) × T (finite (r .nonactive)) × T (finite (r .s)) × T (finite (r .pf))
 
 -- ---- the claims
 

@@ -9,9 +9,9 @@ use lib.Ieee.{add, sub, mul, div, lt, ofInt, ofBits}
 use Rattle.laws.specs.Quotients.{ratioOrZero}
 use Rattle.number.specs.Number.{narrow, root, narrowedRoot}
 use Rattle.power.specs.declared.Power.{Power}
-use Rattle.power.specs.Power.{sumTo, mean64, activeOf, apparentOf, aboveZero, reactiveOf, recordOf, powerOf}
+use Rattle.power.specs.Power.{sumTo, mean64, activeOf, apparentOf, aboveZero, nonactiveOf, recordOf, powerOf}
 use Rattle.laws.specs.Products.{codeAt, products}
-use Rattle.accuracy.specs.Accuracy.{samplesOf, squares, ActiveNear, ApparentNear, ReactiveNear, FactorNear, AtMost}
+use Rattle.accuracy.specs.Accuracy.{samplesOf, squares, ActiveNear, ApparentNear, NonactiveNear, FactorNear, AtMost}
 
 abbrev volts : List ℤ
 volts = pos 4 ∷ pos 4 ∷ pos 5 ∷ []
@@ -38,8 +38,8 @@ alike = pos 10 ∷ pos 4 ∷ pos 1 ∷ pos 4 ∷ pos 0 ∷ pos 4 ∷ pos 0 ∷ [
 pub no-nearer :
     (ActiveNear 25 3 w (found .p) → ⊥)
     × (ApparentNear 23 3 v i (found .s) → ⊥)
-    × (ReactiveNear 22 3 v i w (found .q) → ⊥)
+    × (NonactiveNear 22 3 v i w (found .nonactive) → ⊥)
     × (FactorNear 22 v i w (found .pf) → ⊥)
     × (AtMost 23 (powerOf (samplesOf alike) (samplesOf alike) .pf) → ⊥)
-unfolding powerOf recordOf sumTo mean64 activeOf narrowedRoot apparentOf ratioOrZero aboveZero reactiveOf products squares narrow root add sub mul div lt ofInt ofBits
+unfolding powerOf recordOf sumTo mean64 activeOf narrowedRoot apparentOf ratioOrZero aboveZero nonactiveOf products squares narrow root add sub mul div lt ofInt ofBits
 no-nearer = (λ h. not-le-of-lt (lit< tt) h, λ h. not-le-of-lt (lit< tt) h, λ h. not-le-of-lt (lit< tt) h, λ h. not-le-of-lt (lit< tt) h, λ h. not-le-of-lt (lit< tt) h)

@@ -54,7 +54,7 @@ module _ (v i : List Float) (j : ℕ) (h : j < length v) (l : length v ≤ longe
       none : (n : ℕ) → j < n → n ≡ 0 → ⊥
       none n h z = omega arith
 
-  -- one NaN in the voltage, or in the current, at any place: the call is done, p and s are NaN, q and pf are 0
+  -- one NaN in the voltage, or in the current, at any place: the call is done, p and s are NaN, nonactive and pf are 0
   pub nan-in-voltage : getD v j nan ≡ nan → answerOf v i ≡ answered Done nanPower
   nan-in-voltage a = taken nanPower (nan-voltage v i (found v j a h))
 
@@ -62,7 +62,7 @@ module _ (v i : List Float) (j : ℕ) (h : j < length v) (l : length v ≤ longe
   nan-in-current a = taken nanPower (nan-current v i e (found i j a (subst (λ (n : ℕ). j < n) e h)))
 
   -- an infinity in the voltage, at any place, and no NaN there: p is the sum of the products, which is not finite; where the root mean square of the current
-  -- is above 0, s is infinite and pf a NaN; where it is 0, s is a NaN and pf 0; q is 0 in either case
+  -- is above 0, s is infinite and pf a NaN; where it is 0, s is a NaN and pf 0; nonactive is 0 in either case
   module _ (b : Bool) (at : getD v j nan ≡ inf b) (a : allNumbers v ≡ true) where
     voltage-beyond : finite (sumTo v i (length v)) ≡ false
     voltage-beyond = sum-beyond v i j (ap finite at) (length v) h .0

@@ -24,7 +24,7 @@ use Rattle.laws.proofs.Zero.{Null}
 use Rattle.number.specs.Number.{narrow, root, narrowedRoot}
 use Rattle.answers.specs.Numbers.{longest}
 use Rattle.power.specs.declared.Power.{Power}
-use Rattle.power.specs.Power.{sumTo, captureSums, mean64, activeOf, apparentOf, aboveZero, reactiveOf, recordWith, recordOf}
+use Rattle.power.specs.Power.{sumTo, captureSums, mean64, activeOf, apparentOf, aboveZero, nonactiveOf, recordWith, recordOf}
 
 never : (i : ℕ) → i < 0 → ⊥
 never i h = omega arith
@@ -151,7 +151,7 @@ module _ (x : List Float) (a : allNumbers x ≡ true) where
             ∙ inf-left _ (square-unsigned _ (all-numbers-at x n a (omega arith)))
       ]
 
--- ---- q is 0 where p is not finite
+-- ---- nonactive is 0 where p is not finite
 no-excess : (x : Float) (b : Bool) → lt zero64 (sub binary64 x (mul binary64 (inf b) (inf b))) ≡ false
 unfolding sub add mul neg lt ofBits
 no-excess nan true = refl
@@ -167,11 +167,11 @@ no-root : (x : Float) → lt zero64 x ≡ false → narrowedRoot (aboveZero x) �
 unfolding aboveZero narrowedRoot narrow root ofBits
 no-root x h = ap (λ (b : Bool). narrow (root binary64 (cond b x zero64))) h
 
-no-reactive : (p s : Float) → finite p ≡ false → reactiveOf p s ≡ zero32
-unfolding reactiveOf mul
-no-reactive nan s h = no-root (sub binary64 (mul binary64 s s) nan) (ap (lt zero64) (sub-nan binary64 (mul binary64 s s)) ∙ lt-nan zero64)
-no-reactive (inf b) s h = no-root (sub binary64 (mul binary64 s s) (mul binary64 (inf b) (inf b))) (no-excess (mul binary64 s s) b)
-no-reactive (fin t m e) s h = absurd (subst T h tt)
+no-nonactive : (p s : Float) → finite p ≡ false → nonactiveOf p s ≡ zero32
+unfolding nonactiveOf mul
+no-nonactive nan s h = no-root (sub binary64 (mul binary64 s s) nan) (ap (lt zero64) (sub-nan binary64 (mul binary64 s s)) ∙ lt-nan zero64)
+no-nonactive (inf b) s h = no-root (sub binary64 (mul binary64 s s) (mul binary64 (inf b) (inf b))) (no-excess (mul binary64 s s) b)
+no-nonactive (fin t m e) s h = absurd (subst T h tt)
 
 -- ---- pf is a NaN where s is infinite too, and 0 where s is a NaN
 over-inf : (p : Float) → finite p ≡ false → ratioOrZero p (inf false) ≡ nan
@@ -208,20 +208,20 @@ root-inf n l = ap narrowedRoot (mean-same (inf false) n l refl)
 
 -- ---- the record, with p beside an s that is infinite, and beside one that is a NaN
 abbrev pub besideInf : Float → Power
-besideInf p = record { p = p; q = zero32; s = inf false; pf = nan }
+besideInf p = record { p = p; nonactive = zero32; s = inf false; pf = nan }
 
 abbrev pub besideNan : Float → Power
-besideNan p = record { p = p; q = zero32; s = nan; pf = zero32 }
+besideNan p = record { p = p; nonactive = zero32; s = nan; pf = zero32 }
 
 -- the root mean square of the first n samples
 abbrev pub rmsOf : List Float → ℕ → Float
 rmsOf x n = narrowedRoot (mean64 (sumTo x x n) n)
 
 with-inf : (p s : Float) → finite p ≡ false → s ≡ inf false → recordWith p s ≡ besideInf p
-with-inf p s h e = rw (e, no-reactive p (inf false) h, over-inf p h)
+with-inf p s h e = rw (e, no-nonactive p (inf false) h, over-inf p h)
 
 with-nan : (p s : Float) → finite p ≡ false → s ≡ nan → recordWith p s ≡ besideNan p
-with-nan p s h e = rw (e, no-reactive p nan h, over-nan p)
+with-nan p s h e = rw (e, no-nonactive p nan h, over-nan p)
 
 -- p is the sum of the products itself where that is not finite
 module _ (v i : List Float) (n : ℕ) (l : n ≤ longest) where

@@ -1,4 +1,4 @@
--- A NaN anywhere in a capture makes p and s NaN, and q and pf 0. Assumes nothing.
+-- A NaN anywhere in a capture makes p and s NaN, and nonactive and pf 0. Assumes nothing.
 use Prim.Native.Nat.{ℕ, zero, suc}
 use mathlib.Core.Path.{_≡_, refl, subst}
 use mathlib.Core.Bool.{Bool, true, false, not, _&&_}
@@ -11,7 +11,7 @@ use Rattle.laws.specs.Walks.{over}
 use Rattle.laws.specs.Samples.{stillNumbers, numbersIn, allNumbers}
 use Rattle.laws.proofs.NotNumber.{tested-nan, add-nan, nan-add, mul-nan, nan-mul}
 use Rattle.number.specs.Number.{narrow, root, narrowedRoot}
-use Rattle.power.specs.Power.{sumTo, captureSums, mean64, activeOf, apparentOf, aboveZero, reactiveOf, recordWith, recordOf, nanPower}
+use Rattle.power.specs.Power.{sumTo, captureSums, mean64, activeOf, apparentOf, aboveZero, nonactiveOf, recordWith, recordOf, nanPower}
 
 -- ---- in a sum: of x with any other samples, on either side
 pub sum-nan : (x y : List Float) (n : ℕ) → over stillNumbers true x n ≡ false → (sumTo x y n ≡ nan) × (sumTo y x n ≡ nan)
@@ -25,7 +25,7 @@ sum-nan x y (suc n) e = go (over stillNumbers true x n) (sumTo x y n) (sumTo y x
 
 -- ---- in the record
 both-nan : recordWith nan nan ≡ nanPower
-unfolding reactiveOf narrowedRoot aboveZero ratioOrZero narrow root mul sub add lt ofBits
+unfolding nonactiveOf narrowedRoot aboveZero ratioOrZero narrow root mul sub add lt ofBits
 both-nan = refl
 
 root-nan : (n : ℕ) → narrowedRoot (mean64 nan n) ≡ nan

@@ -45,15 +45,16 @@ apparentOf t = mul binary32 (narrowedRoot (mean64 (t .vv) (t .count))) (narrowed
 unfoldable pub aboveZero : Float → Float
 aboveZero x = cond (lt (ofBits binary64 0) x) x (ofBits binary64 0)
 
--- 01, "q, the reactive power, is the root of s² - p²", worked out in f64
-unfoldable pub reactiveOf : Float → Float → Float
-reactiveOf p s = narrowedRoot (aboveZero (sub binary64 (mul binary64 s s) (mul binary64 p p)))
+-- nonactive power: the root of s² - p², worked out in f64. 01 calls it q, "the reactive power"; 02, c: "IEEE 1459 calls the root of s² - p² nonactive power;
+-- 01 named it wrongly"
+unfoldable pub nonactiveOf : Float → Float → Float
+nonactiveOf p s = narrowedRoot (aboveZero (sub binary64 (mul binary64 s s) (mul binary64 p p)))
 
--- q, and pf, the power factor p / s, from p and s
+-- nonactive, and pf, the power factor p / s, from p and s
 abbrev pub recordWith : Float → Float → Power
-recordWith p s = record { p = p; q = reactiveOf p s; s = s; pf = ratioOrZero p s }
+recordWith p s = record { p = p; nonactive = nonactiveOf p s; s = s; pf = ratioOrZero p s }
 
--- 01, item 4: "p, q, s and pf as one record"
+-- 01, item 4: "p, q, s and pf as one record", where q is nonactive
 unfoldable pub recordOf : Sums → Power
 recordOf t = recordWith (activeOf t) (apparentOf t)
 
@@ -61,7 +62,7 @@ recordOf t = recordWith (activeOf t) (apparentOf t)
 
 -- every figure 0
 abbrev pub zeroPower : Power
-zeroPower = record { p = ofBits binary32 0; q = ofBits binary32 0; s = ofBits binary32 0; pf = ofBits binary32 0 }
+zeroPower = record { p = ofBits binary32 0; nonactive = ofBits binary32 0; s = ofBits binary32 0; pf = ofBits binary32 0 }
 
 abbrev pub answered : Outcome → Power → PowerAnswer
 answered o r = record { outcome = o; power = r }
@@ -84,4 +85,4 @@ answerOf v i =
 
 -- of a capture that holds a NaN: what `recordOf` gives (proofs/NotNumbers.antt)
 abbrev pub nanPower : Power
-nanPower = record { p = nan; q = ofBits binary32 0; s = nan; pf = ofBits binary32 0 }
+nanPower = record { p = nan; nonactive = ofBits binary32 0; s = nan; pf = ofBits binary32 0 }

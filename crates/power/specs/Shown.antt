@@ -1,4 +1,4 @@
--- Examples, computed from the definitions: what infinities in the voltage and the current do to p, q, s and pf. (The laws are in proofs/Incident.antt.) Assumes nothing.
+-- Examples, computed from the definitions: what infinities in the voltage and the current do to p, nonactive, s and pf. (The laws are in proofs/Incident.antt.) Assumes nothing.
 use Prim.Native.Nat.{ℕ}
 use mathlib.Core.Path.{_≡_, refl}
 use mathlib.Core.List.{List, [], _∷_, map}
@@ -7,16 +7,16 @@ use Rattle.answers.specs.Numbers.{ifDone}
 use Rattle.laws.specs.Quotients.{ratioOrZero}
 use Rattle.number.specs.Number.{narrow, root, narrowedRoot}
 use Rattle.power.specs.declared.PowerAnswer.{PowerAnswer}
-use Rattle.power.specs.Power.{sumTo, mean64, activeOf, apparentOf, aboveZero, reactiveOf, recordOf, powerOf, outcomeOf, answerOf}
+use Rattle.power.specs.Power.{sumTo, mean64, activeOf, apparentOf, aboveZero, nonactiveOf, recordOf, powerOf, outcomeOf, answerOf}
 
 -- by bit patterns: those of 1, 2, plus and minus infinity and a NaN are 3F800000, 40000000, 7F800000, FF800000 and 7FC00000
 abbrev floats : List ℕ → List Float
 floats bits = map (ofBits binary32) bits
 
 abbrev figures : PowerAnswer → List Float
-figures a = a .power .p ∷ a .power .q ∷ a .power .s ∷ a .power .pf ∷ []
+figures a = a .power .p ∷ a .power .nonactive ∷ a .power .s ∷ a .power .pf ∷ []
 
--- volts, amps, and p, q, s and pf
+-- volts, amps, and p, nonactive, s and pf
 pub record Row : Type 0 where
   pub volts : List ℕ
   pub amps : List ℕ
@@ -33,7 +33,7 @@ abbrev silence : List ℕ
 silence = 0 ∷ 0 ∷ 0 ∷ []
 
 abbrev four : ℕ → ℕ → ℕ → ℕ → List ℕ
-four p q s pf = p ∷ q ∷ s ∷ pf ∷ []
+four p nonactive s pf = p ∷ nonactive ∷ s ∷ pf ∷ []
 
 abbrev pub rows : List Row
 rows =
@@ -69,5 +69,5 @@ rows =
     ∷ []
 
 pub rows-hold : map (λ (r : Row). figures (answerOf (floats (r .volts)) (floats (r .amps)))) rows ≡ map (λ (r : Row). floats (r .powers)) rows
-unfolding ifDone answerOf outcomeOf powerOf recordOf sumTo mean64 activeOf narrowedRoot apparentOf ratioOrZero aboveZero reactiveOf narrow root add sub mul div neg lt ofInt ofBits
+unfolding ifDone answerOf outcomeOf powerOf recordOf sumTo mean64 activeOf narrowedRoot apparentOf ratioOrZero aboveZero nonactiveOf narrow root add sub mul div neg lt ofInt ofBits
 rows-hold = refl

@@ -1,4 +1,4 @@
-// Active, reactive and apparent power, and the power factor, of a voltage and a current that were sampled together.
+// Active, nonactive and apparent power, and the power factor, of a voltage and a current that were sampled together.
 // The contract cites `specs/Power.antt`.
 ghost use mathlib.Core.Path.{_≡_};
 ghost use Prim.Native.Nat.{_≤_};
@@ -14,7 +14,7 @@ pub mod parts;
 #[repr(C)]
 pub struct Power {
     pub p: f32,
-    pub q: f32,
+    pub nonactive: f32,
     pub s: f32,
     pub pf: f32,
 }
@@ -22,7 +22,7 @@ pub struct Power {
 // What an empty pair of slices and every refusal answer.
 pub const ZERO: Power = Power {
     p: 0.0,
-    q: 0.0,
+    nonactive: 0.0,
     s: 0.0,
     pf: 0.0,
 };
@@ -39,7 +39,7 @@ fn of_nan() -> Power
 {
     Power {
         p: 0.0 / 0.0,
-        q: 0.0,
+        nonactive: 0.0,
         s: 0.0 / 0.0,
         pf: 0.0,
     }

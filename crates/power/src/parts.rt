@@ -1,7 +1,7 @@
 // How a call that reads two slices ends, and the record of a capture from its sums.
 ghost use mathlib.Core.Path.{_≡_};
 ghost use Prim.Native.Nat.{_≤_};
-ghost use Rattle.power.specs.Power.{aboveZero, reactiveOf, recordOf, outcomeOf};
+ghost use Rattle.power.specs.Power.{aboveZero, nonactiveOf, recordOf, outcomeOf};
 ghost use Rattle.answers.specs.Numbers.{longest};
 ghost use Rattle.laws.specs.Quotients.{ratioOrZero};
 use crate::Power;
@@ -46,9 +46,9 @@ fn above_zero(x: f64) -> f64
     if x > 0.0 { x } else { 0.0 }
 }
 
-// The root of s² - p².
-fn reactive(p: f32, s: f32) -> f32
-    ensures { λ r. ⌜ r ≡ reactiveOf p s ⌝ }
+// Nonactive power: the root of s² - p².
+fn nonactive(p: f32, s: f32) -> f32
+    ensures { λ r. ⌜ r ≡ nonactiveOf p s ⌝ }
 {
     let p64 = std::num::f32_to_f64_with_nan(p);
     let s64 = std::num::f32_to_f64_with_nan(s);
@@ -63,7 +63,12 @@ pub fn of_sums(t: Sums) -> Power
     let n = t.count as f64;
     let p = number::narrow(t.vi / n);
     let s = number::sqrt64_narrowed(t.vv / n) * number::sqrt64_narrowed(t.ii / n);
-    let q = reactive(p, s);
+    let nonactive = nonactive(p, s);
     let pf = factor(p, s);
-    Power { p, q, s, pf }
+    Power {
+        p,
+        nonactive,
+        s,
+        pf,
+    }
 }

@@ -1,4 +1,4 @@
-// The power of codes: the counts of codes, the codes; p, q, s and pf.
+// The power of codes: the counts of codes, the codes; p, nonactive, s and pf.
 use power::PowerAnswer;
 use replaying::packed;
 use replaying::packed::PAIRS;

@@ -15,12 +15,12 @@ pub fn reading_at(line: &[u8], i: usize) -> Reading {
     Reading::Number(read::float(line, read::behind(i, 1)))
 }
 
-// p, q, s and pf.
+// p, nonactive, s and pf.
 pub fn power(r: PowerAnswer) -> Said {
     let outcome = r.outcome;
     let mut xs = [0.0f32; ROOM];
     xs[0] = r.power.p;
-    xs[1] = r.power.q;
+    xs[1] = r.power.nonactive;
     xs[2] = r.power.s;
     xs[3] = r.power.pf;
     said::floats(outcome, xs)

@@ -19,7 +19,7 @@ use Rattle.laws.specs.Samples.{higher, lower}
 use Rattle.laws.specs.Walks.{over, pairs}
 use Rattle.number.specs.Number.{narrow, root, wholeRoot, rootIn, abs, narrowedRoot}
 use Rattle.power.specs.declared.PowerAnswer.{PowerAnswer}
-use Rattle.power.specs.Power.{sumTo, mean64, activeOf, apparentOf, aboveZero, reactiveOf, recordOf, zeroPower, answered, powerOf, outcomeOf as powerOutcome, answerOf}
+use Rattle.power.specs.Power.{sumTo, mean64, activeOf, apparentOf, aboveZero, nonactiveOf, recordOf, zeroPower, answered, powerOf, outcomeOf as powerOutcome, answerOf}
 use Rattle.timing.specs.Timing.{totalOf, narrowedMean, risesAt, firstOf, crossingAt, crossingsOf, frequencyFrom, frequencyAbout, frequencyAnswer, slewAt, steepestOf, slewOf, slewAnswer}
 use Rattle.figures.specs.Levels.{maxOf, minOf}
 use Rattle.figures.specs.Edges.{riseStarts, riseGrows, fallStarts, fallGrows, fourTests, riseFallOf}
@@ -84,8 +84,9 @@ p n = count32 n
 abbrev m : ℕ → Float
 m n = neg (count32 n)
 
+-- p, nonactive, which 01 calls q, s and pf
 abbrev figures : Float → Float → Float → Float → Answer
-figures p q s pf = powers (answered Done (record { p = p; q = q; s = s; pf = pf }))
+figures p nonactive s pf = powers (answered Done (record { p = p; nonactive = nonactive; s = s; pf = pf }))
 
 abbrev number : Float → Answer
 number x = value (record { outcome = Done; value = x })
@@ -134,7 +135,7 @@ starred =
 -- ---- the statement
 
 pub starred-hold : map (λ (r : Row). answerTo (r .call)) starred ≡ map (λ (r : Row). r .answer) starred
-unfolding answerOf powerOutcome powerOf recordOf sumTo mean64 activeOf narrowedRoot apparentOf ratioOrZero aboveZero reactiveOf over pairs totalOf narrowedMean
+unfolding answerOf powerOutcome powerOf recordOf sumTo mean64 activeOf narrowedRoot apparentOf ratioOrZero aboveZero nonactiveOf over pairs totalOf narrowedMean
     higher lower risesAt firstOf crossingAt crossingsOf frequencyFrom frequencyAbout slewAt steepestOf slewOf frequencyAnswer slewAnswer maxOf minOf riseStarts
     riseGrows fallStarts fallGrows fourTests riseFallOf spectrumOf outcomeOf onGrid lengths ifDone filled binOf halved magnitudeOf sizeOf sumsOf sumsTo turned
     angleOf stepOf sineOf cosineOf quadrant fraction quarterTable onto within isDigit digitOf codeOf pairAt wordAt allDigits sequenceOf countOf rightForm sumOf

@@ -21,8 +21,8 @@ sqrt64-narrowed-requires c κs = search needs
 sqrt64-narrowed-requires-2 : tie.Need-sqrt64-narrowed-requires-2
 sqrt64-narrowed-requires-2 c κs = search needs
 
-reactive-requires : tie.Need-reactive-requires
-reactive-requires c κs = search needs
+nonactive-requires : tie.Need-nonactive-requires
+nonactive-requires c κs = search needs
 
 factor-requires : tie.Need-factor-requires
 factor-requires c κs = search needs
@@ -31,7 +31,7 @@ returns : tie.Need-returns
 unfolding recordOf activeOf apparentOf mean64
 returns c = rw (
   c .factor .ensures,
-  c .before .reactive .ensures,
+  c .before .nonactive .ensures,
   c .before .before .sqrt64-narrowed2 .ensures,
   c .before .before .before .before .sqrt64-narrowed .ensures,
   c .before .before .before .before .before .before .narrow .ensures,
@@ -45,6 +45,6 @@ of-sums-spec =
     narrow-requires
     sqrt64-narrowed-requires
     sqrt64-narrowed-requires-2
-    reactive-requires
+    nonactive-requires
     factor-requires
     returns)

@@ -1,8 +1,8 @@
--- `power::parts::reactive` meets its contract. Assumes nothing.
-use Rattle.power.specs.Power.{reactiveOf}
+-- `power::parts::nonactive` meets its contract. Assumes nothing.
+use Rattle.power.specs.Power.{nonactiveOf}
 use borrow.Author.Needs.{needs}
-use Rattle.power.proofs.parts.reactive.Statement.{statement}
-use Rattle.power.proofs.parts.reactive.Tie as tie
+use Rattle.power.proofs.parts.nonactive.Statement.{statement}
+use Rattle.power.proofs.parts.nonactive.Tie as tie
 
 f32-to-f64-with-nan-requires : tie.Need-f32-to-f64-with-nan-requires
 f32-to-f64-with-nan-requires c κs = search needs
@@ -17,11 +17,11 @@ sqrt64-narrowed-requires : tie.Need-sqrt64-narrowed-requires
 sqrt64-narrowed-requires c κs = search needs
 
 returns : tie.Need-returns
-unfolding reactiveOf
+unfolding nonactiveOf
 returns c = rw (c .sqrt64-narrowed .ensures, c .before .above-zero .ensures, c .before .before .f32-to-f64-with-nan2 .ensures, c .before .before .before .f32-to-f64-with-nan .ensures)
 
-pub reactive-spec : {M : Type 1} → statement M
-reactive-spec =
+pub nonactive-spec : {M : Type 1} → statement M
+nonactive-spec =
     tie.close
     (tie.spec
     f32-to-f64-with-nan-requires
