@@ -21,7 +21,8 @@ use Rattle.number.specs.Number.{narrow, root, narrowedRoot}
 use Rattle.quarter.specs.Table.{quarterTable}
 use Rattle.quarter.specs.Turn.{fraction, quadrant, sineOf, cosineOf}
 use Rattle.spectrum.specs.declared.parts.Sums.{Sums}
-use Rattle.spectrum.specs.Bin.{angleOf, turned, sumsTo, sumsOf, sizeOf, magnitudeOf}
+use Rattle.spectrum.specs.Bin.{angleOf, sumsOf, sizeOf, magnitudeOf}
+use Rattle.spectrum.proofs.Unusual.{narrow-beyond, real-beyond}
 use Rattle.distortion.specs.Thd.{fundamentalBin, usable, thdFrom, thdAt, thdOf}
 use Rattle.distortion.proofs.NotNumbers.{silent, kept-of, nan-by-cosine, nan-by-sine}
 
@@ -32,12 +33,6 @@ root-beyond f nan h = refl
 root-beyond f (inf true) h = refl
 root-beyond f (inf false) h = refl
 root-beyond f (fin s m e) h = absurd (subst T h tt)
-
-narrow-beyond : (x : Float) → finite x ≡ false → finite (narrow x) ≡ false
-unfolding narrow
-narrow-beyond nan h = refl
-narrow-beyond (inf s) h = refl
-narrow-beyond (fin s m e) h = absurd (subst T h tt)
 
 size-beyond : (s : Sums) (n : ℕ) → finite (s .real) ≡ false → finite (sizeOf s n) ≡ false
 unfolding sizeOf
@@ -68,21 +63,9 @@ no-power earlier = refl
 
 -- the sample at the place j is not finite
 module _ (xs : List Float) (j : ℕ) (e : finite (getD xs j nan) ≡ false) (h : j < length xs) where
-  real-beyond : (bin k : ℕ) → j < k → finite (sumsTo xs bin k .real) ≡ false
-  unfolding sumsTo turned
-  real-beyond bin zero l = absurd (never j l)
-    where
-      never : (i : ℕ) → i < 0 → ⊥
-      never i l = omega arith
-  real-beyond bin (suc k) l =
-      elim (decLe k j) [
-        | yes g ↦ let m : k ≡ j = omega arith in add-beyond binary64 _ _ (beyond-mul binary64 _ _ (ap (λ (i : ℕ). finite (getD xs i nan)) m ∙ e))
-        | no g ↦ beyond-add binary64 _ _ (real-beyond bin k (omega arith))
-      ]
-
   pub magnitude-beyond : (bin : ℕ) → finite (magnitudeOf xs bin) ≡ false
-  unfolding magnitudeOf sumsOf
-  magnitude-beyond bin = size-beyond (sumsTo xs bin (length xs)) (length xs) (real-beyond bin (length xs) h)
+  unfolding magnitudeOf
+  magnitude-beyond bin = size-beyond (sumsOf xs bin) (length xs) (real-beyond xs bin j h e)
 
   power-beyond : (bin last : ℕ) → 1 < last → finite (harmonicPower (magnitudeOf xs) bin 2 last) ≡ false
   unfolding harmonicPower harmonicsOf squareOf

@@ -3,6 +3,7 @@ pub mod Near
 pub mod Ratio
 pub mod Close
 pub mod Signs
+pub mod Negation
 pub mod Whole
 pub mod Squares
 pub mod Size
@@ -17,3 +18,9 @@ pub mod NotNumber
 pub mod NotFinite
 pub mod Quotients
 pub mod ByValue
+pub mod Factors
+pub mod Rounded
+pub mod Over
+pub mod Bounded
+pub mod Lower
+pub mod Distance

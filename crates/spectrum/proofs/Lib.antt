@@ -2,6 +2,7 @@
 pub mod Grid
 pub mod Angle
 pub mod Turns
+pub mod Unusual
 pub mod Ends
 pub mod SameFigures
 pub mod Examples
