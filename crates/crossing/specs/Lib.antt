@@ -5,5 +5,6 @@ pub mod InPlace
 pub mod SignalCrossing
 pub mod QualityCrossing
 pub mod PowerCrossing
+pub mod FundamentalCrossing
 pub mod FiguresCrossing
 pub mod CaptureCrossing

@@ -1,5 +1,6 @@
 // How records cross the C boundary: flat ones for those that hold an enum, and the way there and back. The exports stand in `tilljingle`.
 pub mod captures;
+pub mod fundamentals;
 pub mod harmonics;
 pub mod measured;
 pub mod ports;

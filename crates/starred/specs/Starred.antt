@@ -1,5 +1,5 @@
--- 01, 'Examples to hold it against': "Starred ones are proved." One row for each star, in 01's order and words, and one statement: the definitions that the
--- contracts cite give what the table says. Assumes nothing.
+-- 01, 'Examples to hold it against': "Starred ones are proved." One row for each star, in 01's order and words, and behind them those of document 02; and one
+-- statement: the definitions that the contracts cite give what the table says. Assumes nothing.
 use Prim.Native.Nat.{ℕ}
 use mathlib.Core.Path.{_≡_, refl}
 use mathlib.Core.List.{List, [], _∷_, _++_, map}
@@ -29,6 +29,8 @@ use Rattle.quarter.specs.Turn.{fraction, quadrant, sineOf, cosineOf}
 use Rattle.spectrum.specs.Grid.{lengths, onGrid}
 use Rattle.spectrum.specs.Bin.{stepOf, angleOf, turned, sumsTo, sumsOf, sizeOf, magnitudeOf}
 use Rattle.spectrum.specs.Spectrum.{halved, binOf, outcomeOf, spectrumOf}
+use Rattle.fundamental.specs.declared.FundamentalAnswer.{FundamentalAnswer}
+use Rattle.fundamental.specs.Fundamental.{inPhase, across, scaledOf, fundamentalWith, fundamentalFigures, fundamentalOf, fundamentalOutcome, fundamentalAnswer}
 use Rattle.hex.specs.Digit.{within, isDigit, digitOf}
 use Rattle.hex.specs.Code.{codeOf}
 use Rattle.frame.specs.Line.{after, pairAt, wordAt, allDigits, sequenceOf, countOf, rightForm, sumOf, rightSum, lineOf, runCodes, codesBy, lineCodes}
@@ -45,6 +47,7 @@ pub data Call : Type 0 where
   rise : List Float → Call
   spectrum : List Float → List Float → Call
   capture : List ℕ → List ℤ → List ℤ → Call
+  fundamental : List Float → List Float → ℕ → Call
 
 -- the answers, lent slices as they are left among them
 pub data Answer : Type 0 where
@@ -53,6 +56,7 @@ pub data Answer : Type 0 where
   count : ℕ → Answer
   bins : Left Outcome (List Float) → Answer
   codes : ReadLeft → Answer
+  fundamentals : FundamentalAnswer → Answer
 
 -- how many samples the last rise has, of the edges that the time figures' rise and fall are worked out from
 abbrev pub riseSamples : List Float → ℕ
@@ -66,6 +70,7 @@ answerTo (slew xs rate) = value (slewAnswer xs rate)
 answerTo (rise xs) = count (riseSamples xs)
 answerTo (spectrum xs out) = bins (spectrumOf xs out)
 answerTo (capture text volts amps) = codes (readCapture text volts amps)
+answerTo (fundamental v i k) = fundamentals (fundamentalAnswer v i k)
 
 pub record Row : Type 0 where
   pub call : Call
@@ -130,15 +135,18 @@ starred =
     ∷ row (spectrum (p 3 ∷ p 1 ∷ []) (old ∷ [])) (bins (left Done (p 2 ∷ [])))
     -- "`0000010001FFFF00` holds the pair 1, -1."; places past the pair stay
     ∷ row (capture text (pos 7 ∷ pos 7 ∷ []) (pos 8 ∷ pos 8 ∷ [])) (codes (left (record { outcome = Done; line = 0; pairs = 1 }) (pos 1 ∷ pos 7 ∷ [], negsuc 0 ∷ pos 8 ∷ [])))
+    -- 02, c: "(1, 0, -1, 0) and (0, 1, 0, -1) at bin 1 give 0 and 0.5"
+    ∷ row (fundamental (p 1 ∷ p 0 ∷ m 1 ∷ p 0 ∷ []) (p 0 ∷ p 1 ∷ p 0 ∷ m 1 ∷ []) 1) (fundamentals (record { outcome = Done; power = fundamentalWith (p 0) (ofBits binary32 0x3F000000) }))
     ∷ []
 
 -- ---- the statement
 
 pub starred-hold : map (λ (r : Row). answerTo (r .call)) starred ≡ map (λ (r : Row). r .answer) starred
-unfolding answerOf powerOutcome powerOf recordOf sumTo mean64 activeOf narrowedRoot apparentOf ratioOrZero aboveZero nonactiveOf over pairs totalOf narrowedMean
-    higher lower risesAt firstOf crossingAt crossingsOf frequencyFrom frequencyAbout slewAt steepestOf slewOf frequencyAnswer slewAnswer maxOf minOf riseStarts
-    riseGrows fallStarts fallGrows fourTests riseFallOf spectrumOf outcomeOf onGrid lengths ifDone filled binOf halved magnitudeOf sizeOf sumsOf sumsTo turned
-    angleOf stepOf sineOf cosineOf quadrant fraction quarterTable onto within isDigit digitOf codeOf pairAt wordAt allDigits sequenceOf countOf rightForm sumOf
-    rightSum lineOf runCodes codesBy lineCodes addLine cut codesOf follows after weigh judge verdictOf settle readCapture narrow root wholeRoot rootIn abs add
-    sub mul div neg sum round units odd size span climb trailingZeros lt le ofInt ofBits ofFields
+unfolding answerOf powerOutcome powerOf recordOf sumTo mean64 activeOf narrowedRoot apparentOf ratioOrZero aboveZero nonactiveOf over pairs totalOf
+    narrowedMean higher lower risesAt firstOf crossingAt crossingsOf frequencyFrom frequencyAbout slewAt steepestOf slewOf frequencyAnswer slewAnswer maxOf
+    minOf riseStarts riseGrows fallStarts fallGrows fourTests riseFallOf spectrumOf outcomeOf onGrid lengths ifDone filled binOf halved magnitudeOf sizeOf
+    sumsOf sumsTo turned angleOf stepOf sineOf cosineOf quadrant fraction quarterTable onto within isDigit digitOf codeOf pairAt wordAt allDigits sequenceOf
+    countOf rightForm sumOf rightSum lineOf runCodes codesBy lineCodes addLine cut codesOf follows after weigh judge verdictOf settle readCapture
+    fundamentalAnswer fundamentalOutcome fundamentalOf fundamentalFigures scaledOf inPhase across narrow root wholeRoot rootIn abs add sub mul div neg sum
+    round units odd size span climb trailingZeros lt le ofInt ofBits ofFields
 starred-hold = refl
