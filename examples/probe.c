@@ -32,6 +32,12 @@ int main(void) {
 
   pairs_of("00010200640032FF9CFFCEFE\n", volts, amps); /* its sum is wrong */
 
+  static const float turn[] = {1, 0, -1, 0}, lagging[] = {0, 1, 0, -1};
+  tj_fundamental fundamental = tj_fundamental_power(turn, 4, lagging, 4, 1);
+  if (fundamental.code != 0)
+    return 1;
+  printf("fundamental: active %g, reactive %g\n", (double)fundamental.active, (double)fundamental.reactive);
+
   float samples[16];
   tj_signal_answer signal = tj_signal_new(1, 5.0f, 2.0f, samples, 16);
   if (signal.code != 0)

@@ -20,7 +20,8 @@ subprocess.run(
 
 # a large struct comes back through a pointer: the first argument on x86-64, which is answered too; a register of its own elsewhere
 LARGE = re.compile(r"^define (?:noundef )?ptr @(tj_\w+)\(ptr noundef %a0(.*)\)(.*)\{$")
-MIXED = re.compile(r"^define (?:noundef )?(\{ (?:i64, double|double, i64) \}) @(tj_\w+)\(([^)]*)\)(.*)\{$")
+MIXED = re.compile(r"^define (?:noundef )?(\{ (?:i64, double|i64, float|double, i64) \}) @(tj_\w+)\(([^)]*)\)(.*)\{$")
+WHOLE = {"i64": "i64", "double": "i64", "float": "i32"}
 lines, wrappers, returned = [], [], []
 for line in open(text, encoding="utf-8"):
     line = line.rstrip("\n")
@@ -55,7 +56,9 @@ for kind, name, params in wrappers:
     lines.append(f"  %r = call {kind} @{name}.mixed({params})")
     for place, part in enumerate(parts):
         lines.append(f"  %p{place} = extractvalue {kind} %r, {place}")
-        lines.append(f"  %q{place} = bitcast {part} %p{place} to i64")
+        lines.append(f"  %b{place} = bitcast {part} %p{place} to {WHOLE[part]}")
+        widened = "zext i32" if part == "float" else "bitcast i64"
+        lines.append(f"  %q{place} = {widened} %b{place} to i64")
     lines.append("  %s0 = insertvalue { i64, i64 } undef, i64 %q0, 0")
     lines.append("  %s1 = insertvalue { i64, i64 } %s0, i64 %q1, 1")
     lines.append("  ret { i64, i64 } %s1")

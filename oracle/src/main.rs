@@ -3,6 +3,7 @@
 //!     oracle compare [AREA..] [ROUNDS]    every answer compared; the last line counts calls and differences
 //!     oracle bench [AREA..]               both measured; one Markdown table
 //!     oracle fuzz MINUTES [SEED]          mutated captures for so long
+//!     oracle fundamental                  prints the tables of currents that lag and of distorted ones
 //!     oracle replay                       writes the data of the replay programs from the Rust's answers
 //!
 //! An area is one file with `ROUNDS`, `compare` and `bench`, and one line below.
@@ -48,6 +49,7 @@ areas! {
     timing,
     quality,
     spectrum,
+    fundamental,
     generator,
     port,
     figures,
@@ -59,7 +61,7 @@ areas! {
 fn usage() -> ExitCode {
     let names: Vec<_> = AREAS.iter().map(|area| area.name).collect();
     eprintln!(
-        "oracle compare [AREA..] [ROUNDS] | oracle bench [AREA..] | oracle fuzz MINUTES [SEED] | oracle replay; areas: {}",
+        "oracle compare [AREA..] [ROUNDS] | oracle bench [AREA..] | oracle fuzz MINUTES [SEED] | oracle fundamental | oracle replay; areas: {}",
         names.join(" ")
     );
     ExitCode::from(2)
@@ -124,6 +126,7 @@ fn main() -> ExitCode {
         (Some("fuzz"), _) => fuzz(&words[1..]),
         (Some("compare"), Some((areas, rounds))) => compare(&areas, rounds),
         (Some("bench"), Some((areas, None))) => bench(&areas),
+        (Some("fundamental"), Some((_, None))) if words.len() == 1 => fundamental::print(),
         (Some("replay"), Some((_, None))) if words.len() == 1 => replay::write(),
         _ => usage(),
     }

@@ -21,8 +21,11 @@ const CRATES: &str = concat!(env!("CARGO_MANIFEST_DIR"), "/../crates");
 const ROOM: usize = 32;
 
 /// One file of cases: its name, the seed, the number by which the program finds what is called, and what makes the lines. That number is 01's item; 12, for
-/// sequences on a signal that keeps its samples, is our own, and 0 stands where each case says its item itself.
+/// sequences on a signal that keeps its samples, and 13, for the power of the fundamental, are our own, and 0 stands where each case says its item itself.
 type File = (&'static str, u64, u32, fn(&mut Lines));
+
+/// The number of the power of the fundamental.
+const FUNDAMENTAL: u32 = 13;
 
 /// The programs, and the files of each.
 const PROGRAMS: [(&str, &[File]); 4] = [
@@ -36,6 +39,7 @@ const PROGRAMS: [(&str, &[File]); 4] = [
             ("spectrum", 106, 6, slices::spectrum),
             ("quality", 107, 7, slices::quality),
             ("generator", 108, 8, slices::generator),
+            ("fundamental", 119, FUNDAMENTAL, slices::fundamental),
             ("limits", 114, 0, limits::slices),
         ],
     ),

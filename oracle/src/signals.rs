@@ -108,7 +108,7 @@ impl Call {
 // ---------------------------------------------------------------------------- 01's THD, read apart
 
 /// 01's quarter wave: the whole numbers nearest to 2^30 times the sine of j/4096 of a turn.
-struct Quarter(Vec<f64>);
+pub struct Quarter(Vec<f64>);
 
 /// The fundamental of a usable bin, and the THD that follows.
 struct Heard {
@@ -117,7 +117,7 @@ struct Heard {
 }
 
 impl Quarter {
-    fn new() -> Quarter {
+    pub fn new() -> Quarter {
         let entry = |j: u32| (2f64.powi(30) * (2.0 * PI * j as f64 / 4096.0).sin()).round();
         Quarter((0..=1024).map(entry).collect())
     }
@@ -129,8 +129,8 @@ impl Quarter {
         entry / 2f64.powi(30)
     }
 
-    /// The Rust's sums and magnitude, the angle in steps.
-    fn magnitude(&self, samples: &[f32], bin: usize) -> f32 {
+    /// The Rust's sums of one bin, the angle in steps.
+    pub fn sums(&self, samples: &[f32], bin: usize) -> (f64, f64) {
         let n = samples.len();
         let (mut real, mut imag) = (0f64, 0f64);
         for (i, &sample) in samples.iter().enumerate() {
@@ -138,7 +138,13 @@ impl Quarter {
             real += sample as f64 * self.sine(steps + 1024);
             imag -= sample as f64 * self.sine(steps);
         }
-        ((real * real + imag * imag).sqrt() * 2.0 / n as f64) as f32
+        (real, imag)
+    }
+
+    /// Its magnitude.
+    fn magnitude(&self, samples: &[f32], bin: usize) -> f32 {
+        let (real, imag) = self.sums(samples, bin);
+        ((real * real + imag * imag).sqrt() * 2.0 / samples.len() as f64) as f32
     }
 
     /// Step 10 at a usable bin: orders up to 16, bins below half.

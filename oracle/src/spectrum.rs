@@ -39,13 +39,24 @@ fn share(rounds: u64, n: usize) -> u64 {
 // ---------------------------------------------------------------------------- inputs
 
 /// How many kinds of samples `within_claim` makes.
-const SHAPES: u64 = 8;
+pub const SHAPES: u64 = 8;
+
+/// A size from 1 to 2^30.
+pub fn size(random: &mut Random) -> f64 {
+    2f64.powf(random.unit() * 30.0)
+}
 
 /// Finite samples of which the largest has a size from 1 to 2^30.
 fn within_claim(random: &mut Random, shape: u64, n: usize) -> Vec<f32> {
-    let size = 2f64.powf(random.unit() * 30.0);
+    let size = size(random);
+    let bin = random.below(n as u64 / 2 + 1) as f64;
+    shaped(random, shape, n, size, bin)
+}
+
+/// Samples of this size, with turns of this bin where the shape has turns.
+pub fn shaped(random: &mut Random, shape: u64, n: usize, size: f64, bin: f64) -> Vec<f32> {
     let turn = 2.0 * std::f64::consts::PI;
-    let (bin, phase) = (random.below(n as u64 / 2 + 1) as f64, random.unit() * turn);
+    let phase = random.unit() * turn;
     let wave = |i: usize, bin: f64| (turn * bin * i as f64 / n as f64 + phase).sin();
     let mut out: Vec<f32> = (0..n)
         .map(|i| match shape {
@@ -72,7 +83,7 @@ fn within_claim(random: &mut Random, shape: u64, n: usize) -> Vec<f32> {
 }
 
 /// The largest size among the samples.
-fn largest(samples: &[f32]) -> f64 {
+pub fn largest(samples: &[f32]) -> f64 {
     samples.iter().fold(0.0, |most, x| most.max(x.abs() as f64))
 }
 

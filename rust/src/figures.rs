@@ -16,6 +16,15 @@ pub struct Power {
     pub pf: f32,
 }
 
+/// Active and reactive power of the fundamental.
+#[derive(Clone, Copy, Debug, Default, PartialEq)]
+pub struct Fundamental {
+    /// Active power of the fundamental.
+    pub active: f32,
+    /// Reactive power of the fundamental: positive where the current lags.
+    pub reactive: f32,
+}
+
 /// The 19 time figures, in the order of the Rust's `SignalMetrics`.
 ///
 /// No sample rate is given: for frequency, period and slew rate the samples are one second; for rise and fall time they are one period of the
@@ -113,6 +122,23 @@ pub fn compute_power(voltage: &[f32], current: &[f32], sample_rate: f32) -> Resu
 pub fn power_of_codes(volts: &[i16], amps: &[i16]) -> Result<Power, Refusal> {
     let answer = unsafe { raw::tj_power_of_codes(volts.as_ptr(), volts.len(), amps.as_ptr(), amps.len()) };
     answered(answer.code, answer.power)
+}
+
+/// Active and reactive power of the fundamental, at the bin that it has in a spectrum of the captures; sine and cosine come from document 01's table.
+/// [`Refusal::TooLong`], then [`Refusal::LengthsDiffer`], then [`Refusal::OffGrid`] where the captures' length is none of 0, 1 and the powers of two
+/// to 4,096, then [`Refusal::BinOutside`] where the bin is 0 or not below half of it.
+///
+/// ```
+/// use tilljingle::{fundamental_power, Fundamental, Refusal};
+/// let (voltage, lagging) = ([1.0, 0.0, -1.0, 0.0], [0.0, 1.0, 0.0, -1.0]);
+/// assert_eq!(fundamental_power(&voltage, &lagging, 1), Ok(Fundamental { active: 0.0, reactive: 0.5 }));
+/// assert_eq!(fundamental_power(&voltage, &lagging, 2), Err(Refusal::BinOutside));
+/// ```
+pub fn fundamental_power(voltage: &[f32], current: &[f32], bin: usize) -> Result<Fundamental, Refusal> {
+    let (nv, ni) = (voltage.len(), current.len());
+    let answer = unsafe { raw::tj_fundamental_power(voltage.as_ptr(), nv, current.as_ptr(), ni, bin) };
+    let (active, reactive) = (answer.active, answer.reactive);
+    answered(answer.code, Fundamental { active, reactive })
 }
 
 /// The 19 time figures of samples; no samples give the earlier record back. [`Refusal::TooLong`] past 65,536 samples.

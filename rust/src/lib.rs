@@ -17,7 +17,8 @@ mod signal;
 
 pub use capture::{read_capture, report_text, write_capture, BadCapture};
 pub use figures::{
-    calculate_time_figures, compute_power, measure_frequency, power_of_codes, slew_rate, Power, TimeFigures,
+    calculate_time_figures, compute_power, fundamental_power, measure_frequency, power_of_codes, slew_rate,
+    Fundamental, Power, TimeFigures,
 };
 pub use number::{abs32, narrow, round32, sqrt32, sqrt64, sqrt64_narrowed};
 pub use port::{Port, Reading};

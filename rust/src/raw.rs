@@ -18,6 +18,14 @@ pub struct PowerAnswer {
 
 #[derive(Clone, Copy, Debug)]
 #[repr(C)]
+pub struct Fundamental {
+    pub code: u8,
+    pub active: f32,
+    pub reactive: f32,
+}
+
+#[derive(Clone, Copy, Debug)]
+#[repr(C)]
 pub struct TimeAnswer {
     pub code: u8,
     pub figures: TimeFigures,
@@ -76,6 +84,13 @@ extern "C" {
         sample_rate: f32,
     ) -> PowerAnswer;
     pub fn tj_power_of_codes(volts: *const i16, nv: usize, amps: *const i16, na: usize) -> PowerAnswer;
+    pub fn tj_fundamental_power(
+        voltage: *const f32,
+        nv: usize,
+        current: *const f32,
+        ni: usize,
+        bin: usize,
+    ) -> Fundamental;
 
     pub fn tj_calculate_time_figures(
         wave: u8,

@@ -45,6 +45,28 @@ fn frequency_of_a_sine() {
 }
 
 #[test]
+fn power_of_the_fundamental() {
+    let (voltage, lagging) = ([1.0, 0.0, -1.0, 0.0], [0.0, 1.0, 0.0, -1.0]);
+    let is = |active, reactive| Ok(Fundamental { active, reactive });
+    assert_eq!(fundamental_power(&voltage, &lagging, 1), is(0.0, 0.5));
+    assert_eq!(fundamental_power(&lagging, &voltage, 1), is(0.0, -0.5));
+    assert_eq!(fundamental_power(&voltage, &voltage, 1), is(0.5, 0.0));
+    let long = vec![1.0; 65_537];
+    for (nv, ni, bin, refusal) in [
+        (65_537, 4, 0, Refusal::TooLong),
+        (4, 3, 0, Refusal::LengthsDiffer),
+        (3, 3, 0, Refusal::OffGrid),
+        (8192, 8192, 1, Refusal::OffGrid),
+        (4, 4, 0, Refusal::BinOutside),
+        (4, 4, 2, Refusal::BinOutside),
+        (2, 2, 1, Refusal::BinOutside),
+        (0, 0, 1, Refusal::BinOutside),
+    ] {
+        assert_eq!(fundamental_power(&long[..nv], &long[..ni], bin), Err(refusal));
+    }
+}
+
+#[test]
 fn a_capture_there_and_back() {
     let (volts, amps) = ([100, -32768, 7], [-1, 32767, 0]);
     let mut text = [0; 64];

@@ -1,4 +1,4 @@
-/* What the files of this folder share. Every number that is expected is written down, worked out from document 01 and the Rust by hand: whole numbers,
+/* What the files of this folder share. Every number that is expected is written down, worked out from documents 01 and 02 and the Rust by hand: whole numbers,
  * halves of halves, and quotients and roots that are rounded once. Every number of the header is exact as a double. */
 #ifndef BOUNDARY_CHECK_H
 #define BOUNDARY_CHECK_H
@@ -38,6 +38,7 @@ void signal_is(tj_signal got, tj_signal wanted);
 void check_numbers(void);
 void check_samples(void);
 void check_power(void);
+void check_fundamental(void);
 void check_spectrum(void);
 void check_quality(void);
 void check_generator(void);

@@ -27,6 +27,11 @@ LONG(tj_power_answer, 20);
 AT(tj_power_answer, code, 0);
 AT(tj_power_answer, power, 4);
 
+LONG(tj_fundamental, 12);
+AT(tj_fundamental, code, 0);
+AT(tj_fundamental, active, 4);
+AT(tj_fundamental, reactive, 8);
+
 LONG(tj_time_figures, 76);
 AT(tj_time_figures, peak_to_peak, 0);
 AT(tj_time_figures, max, 4);

@@ -20,6 +20,7 @@ int main(void) {
   check_numbers();
   check_samples();
   check_power();
+  check_fundamental();
   check_spectrum();
   check_quality();
   check_generator();

@@ -85,6 +85,47 @@ void check_power(void) {
   power_is(tj_power_of_codes(many_codes, MANY, amps, 1), 3, 0, 0, 0, 0);
 }
 
+static void fundamental_is(tj_fundamental got, unsigned code, float active, float reactive) {
+  IS(got.code, code);
+  IS(got.active, active);
+  IS(got.reactive, reactive);
+}
+
+/* 3 before 1, 1 before 4, 4 before 8: each call would be refused by those after it too */
+static void check_fundamental_refused(const float *voltage, const float *current) {
+  fundamental_is(tj_fundamental_power(many, MANY, current, 4, 0), 3, 0, 0);
+  fundamental_is(tj_fundamental_power(voltage, 4, many, MANY, 0), 3, 0, 0);
+  fundamental_is(tj_fundamental_power(many, MANY, many, MANY, 0), 3, 0, 0);
+  fundamental_is(tj_fundamental_power(voltage, 3, current, 4, 0), 1, 0, 0);
+  fundamental_is(tj_fundamental_power(voltage, 4, current, 3, 0), 1, 0, 0);
+  fundamental_is(tj_fundamental_power(voltage, 3, current, 3, 0), 4, 0, 0);
+  fundamental_is(tj_fundamental_power(many, 8192, many, 8192, 1), 4, 0, 0);
+  fundamental_is(tj_fundamental_power(voltage, 4, current, 4, 0), 8, 0, 0);
+  fundamental_is(tj_fundamental_power(voltage, 4, current, 4, 2), 8, 0, 0);
+  fundamental_is(tj_fundamental_power(voltage, 4, current, 4, (size_t)-1), 8, 0, 0);
+  fundamental_is(tj_fundamental_power(voltage, 2, current, 2, 1), 8, 0, 0);
+  fundamental_is(tj_fundamental_power(voltage, 1, current, 1, 1), 8, 0, 0);
+  fundamental_is(tj_fundamental_power(voltage, 0, current, 0, 1), 8, 0, 0);
+}
+
+/* document 02's example, a turn and the same a quarter behind; then sums 2, 0 and 4, -6; and of eight samples at bin 2 sums 0, -15 and 4, -15 */
+void check_fundamental(void) {
+  static const float one[] = {1, 0, -1, 0}, other[] = {0, 1, 0, -1};
+  static const float eight[] = {3, 1, -4, 1, -5, 9, 2, -6}, others[] = {2, 7, 1, -8, 2, 8, -1, 8};
+  float voltage[] = {5, 4, 3, 4, 7}, current[] = {3, 1, -1, -5, 8};
+  static const float voltage_left[] = {5, 4, 3, 4, 7}, current_left[] = {3, 1, -1, -5, 8};
+  called("tj_fundamental_power");
+  fundamental_is(tj_fundamental_power(one, 4, other, 4, 1), 0, 0, 0.5f);
+  fundamental_is(tj_fundamental_power(other, 4, one, 4, 1), 0, 0, -0.5f);
+  fundamental_is(tj_fundamental_power(one, 4, one, 4, 1), 0, 0.5f, 0);
+  fundamental_is(tj_fundamental_power(voltage, 4, current, 4, 1), 0, 1, 1.5f);
+  fundamental_is(tj_fundamental_power(eight, 8, others, 8, 2), 0, 7.03125f, -1.875f);
+  check_fundamental_refused(voltage, current);
+  ARE(voltage, voltage_left);
+  ARE(current, current_left);
+  many_stayed();
+}
+
 /* 4 and one turn of height 1: bin 0 is 4, bin 1 is 1 */
 static const float turn[] = {5, 4, 3, 4};
 

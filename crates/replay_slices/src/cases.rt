@@ -1,4 +1,5 @@
-// Cases over numbers and slices: 01's items 1 to 4 and 6 to 8.
+// Cases over numbers and slices: 01's items 1 to 4 and 6 to 8, and 13, the power of the fundamental.
+use crate::of_fundamental;
 use crate::of_generator;
 use crate::of_number;
 use crate::of_power;
@@ -25,6 +26,7 @@ fn call(line: &[u8], a: &[f32], b: &[f32], out: &mut [f32]) -> Said {
         6 => of_spectrum::call(line, which, a, out),
         7 => of_quality::call(line, which, a),
         8 => of_generator::call(line, out),
+        13 => of_fundamental::call(line, a, b),
         _ => said::nothing(),
     }
 }

@@ -5,6 +5,7 @@ use replaying::files::LARGEST;
 use replaying::files::Tally;
 
 mod cases;
+mod of_fundamental;
 mod of_generator;
 mod of_number;
 mod of_power;
@@ -43,6 +44,7 @@ fn right() -> Tally {
     let tally = file(b"spectrum", tally);
     let tally = file(b"quality", tally);
     let tally = file(b"generator", tally);
+    let tally = file(b"fundamental", tally);
     file(b"limits", tally)
 }
 

@@ -5,7 +5,7 @@ use super::ports::reading;
 use super::signals::{nothing_shown, shown, with_thd};
 use super::slices::SCRATCH;
 use super::wrong::{Field, PAIR, WHOLE};
-use super::{word, words, Given, Lines, Said};
+use super::{word, words, Given, Lines, Said, FUNDAMENTAL};
 use crate::generator::wave_of;
 use crate::lines::{self, LONGEST};
 use crate::quality::cut;
@@ -74,7 +74,7 @@ pub fn slices(lines: &mut Lines) {
     two_slices(lines);
 }
 
-/// `add_signals`, whose output may have any length, and `compute_power`.
+/// `add_signals`, whose output may have any length, `compute_power`, and the power of the fundamental, whose 4 and 8 come after both.
 fn two_slices(lines: &mut Lines) {
     let [taken, refused] = LENGTHS;
     for (na, nb, n) in [
@@ -113,6 +113,14 @@ fn two_slices(lines: &mut Lines) {
                 false => (0.0, 0.0, 0.0, 0.0),
             };
             said.floats = vec![p, q, s, pf];
+        });
+        let given = Given {
+            words: vec![0, (na % 2) as u32],
+            ..given
+        };
+        let code = limited(&[na, nb], if na != nb { 1 } else { 4 });
+        case(lines, FUNDAMENTAL, 1, &given, code, |_, said| {
+            said.floats = vec![0.0; 2]
         });
     }
 }

@@ -2,12 +2,13 @@
 
 use super::ports::reading;
 use super::signals::{answered, refused, set_again, with_thd};
-use super::slices::{quotients, sines, SCRATCH};
+use super::slices::{power_at, quotients, sines, SCRATCH};
 use super::wrong::WHOLE;
 use super::{word, Given, Lines, Said, ROOM};
 use crate::generator::wave_of;
 use crate::lines::LONGEST;
 use crate::signal::Signal;
+use crate::signals::Quarter;
 use crate::spectrum::over_sines;
 
 /// Whether a list of so many places is made by the rule.
@@ -111,6 +112,19 @@ pub fn qualities(lines: &mut Lines) {
         for bin in from(1).take(3).chain(from((n - 1) / 17).take(3)) {
             quotients(lines, a.clone(), bin);
         }
+    }
+}
+
+/// The power of the fundamental at the first bins, the last ones and half; two captures of the rule, and at one bin of different lengths.
+pub fn fundamentals(lines: &mut Lines, quarter: &Quarter) {
+    for n in LENGTHS {
+        let pair = |ni: usize| [made(3 * n as u32 + 1, n), made(5 * n as u32 + 2, ni)];
+        for bin in [1, 2, n / 4 + 1, n / 2 - 1, n / 2] {
+            let [voltage, current] = pair(n);
+            power_at(lines, quarter, voltage, current, bin);
+        }
+        let [voltage, current] = pair(n - 1);
+        power_at(lines, quarter, voltage, current, 1);
     }
 }
 

@@ -3,9 +3,11 @@
 use super::wrong::Field;
 use super::{long, word, words, Given, Lines, Said, TINY};
 use crate::common::{edges32, edges64, Kind, KINDS};
+use crate::fundamental;
 use crate::generator::wave_of;
 use crate::quality::cut;
 use crate::signal::{self, Signal};
+use crate::signals::Quarter;
 use crate::spectrum::over_sines;
 
 pub fn number(lines: &mut Lines) {
@@ -207,4 +209,62 @@ pub fn generator(lines: &mut Lines) {
         words.extend([amplitude, phase, frequency, duty].iter().map(word));
         lines.line(1, &Given::into(words, out), &said);
     }
+}
+
+/// Lengths of the grid and others, every tenth pair of slices of different lengths; bins that are taken, and some that are not.
+pub fn fundamental(lines: &mut Lines) {
+    let quarter = Quarter::new();
+    for round in 0..300 {
+        let n = match round % 10 {
+            9 => lines.random.below(33) as usize,
+            _ => lines.random.pick(&[0, 1, 2, 4, 4, 8, 8, 16, 16, 32]),
+        };
+        let ni = if round % 10 == 8 { n / 2 } else { n };
+        let [voltage, current] = [n, ni].map(|n| {
+            let kind = lines
+                .random
+                .pick(&[Kind::Codes, Kind::Small, Kind::Steps, Kind::Mostly, Kind::Mixed]);
+            lines.random.samples(kind, n)
+        });
+        let bin = match lines.random.below(8) {
+            0 => lines.random.pick(&[0, n / 2, n, usize::MAX, (1 << 32) + 1]),
+            1 => (n / 2).saturating_sub(1),
+            _ => 1 + lines.random.below((n as u64 / 2).max(2) - 1) as usize,
+        };
+        power_at(lines, &quarter, voltage, current, bin);
+    }
+    // 02: "(1, 0, -1, 0) and (0, 1, 0, -1) at bin 1 give 0 and 0.5"; and exchanged
+    let [one, other] = [[1.0, 0.0, -1.0, 0.0], [0.0, 1.0, 0.0, -1.0]];
+    for (voltage, current, reactive) in [(one, other, 0.5), (other, one, -0.5)] {
+        assert_eq!(
+            fundamental::answer(&quarter, &voltage, &current, 1),
+            (0, [0.0, reactive])
+        );
+        power_at(lines, &quarter, voltage.to_vec(), current.to_vec(), 1);
+    }
+    long::fundamentals(lines, &quarter);
+    // a current of three times the voltage: the reactive figure is what rounding leaves, and shows the order of the operations
+    for n in [8, 16, 32].into_iter().cycle().take(40) {
+        let half = 1 << 21;
+        let voltage: Vec<f32> = (0..n)
+            .map(|_| (lines.random.below(2 * half) as i64 - half as i64) as f32)
+            .collect();
+        let current = voltage.iter().map(|x| 3.0 * x).collect();
+        let bin = 1 + lines.random.below(n / 2 - 1) as usize;
+        power_at(lines, &quarter, voltage, current, bin);
+    }
+}
+
+/// Active and reactive power of two slices at a bin, by the reading of 02 that the comparison has.
+pub fn power_at(lines: &mut Lines, quarter: &Quarter, a: Vec<f32>, b: Vec<f32>, bin: usize) {
+    let (code, figures) = fundamental::answer(quarter, &a, &b, bin);
+    let said = Said {
+        code: code as u32,
+        ..Said::floats(figures.to_vec())
+    };
+    let given = Given {
+        words: vec![(bin as u64 >> 32) as u32, bin as u32],
+        ..Given::on_two(a, b)
+    };
+    lines.line(1, &given, &said);
 }
