@@ -6,7 +6,7 @@ use native.Mathlib.Nat.{le-trans, le-of-eq, le-of-lt, lt-irrefl, mul-comm, mul-a
 use native.Mathlib.Nat.{le-mul-of-pos-right}
 use native.Mathlib.Omega.{arith}
 use lib.Dec.{T, leb, leb→le, nleb→lt, eqb→eq, lit≤, lit<}
-use lib.IntN.{ℤ, pos, negsuc, negℤ, natAbs, _-ℤ_, _*ℤ_, *ℤ-comm, negℤ-+ℤ}
+use lib.IntN.{ℤ, pos, negsuc, natAbs, _-ℤ_, _*ℤ_, *ℤ-comm}
 use lib.Ieee.{Float, nan, inf, fin, Format, binary32, binary64, up, down, unlike, round, mul, div, sub, lt, fits, ofBits}
 use lib.Ieee.Fits.{mul-fits, up-pos, down-pos}
 use lib.Ieee.Scale.{finite}
@@ -17,8 +17,9 @@ use Rattle.laws.specs.Quotients.{ratioOrZero}
 use Rattle.laws.specs.Whole.{gap, signed, value}
 use Rattle.accuracy.specs.Accuracy.{Within, sign, ActiveNear, AtMost, near-p, most-pf}
 use Rattle.laws.proofs.Ratio.{Ratio, after, weaken}
-use Rattle.laws.proofs.Signs.{signed-scale, size-neg, minus-le, minus-ge}
+use Rattle.laws.proofs.Signs.{signed-scale, minus-le}
 use Rattle.laws.proofs.Squares.{root-le}
+use Rattle.laws.proofs.Distance.{dist-pos, dist-signed, value-is}
 use Rattle.laws.proofs.Close.{own}
 use Rattle.laws.proofs.Size.{size-times, size-near, Signed, SizeOf, mul-close}
 use Rattle.laws.proofs.Zero.{Null, Number, null-num, null-number, signed-number, null-mul, round-null, lt-null}
@@ -26,29 +27,6 @@ use Rattle.accuracy.proofs.Figures.{Found, FoundSquare, p-l, p-h, p-k}
 use Rattle.accuracy.proofs.Factor.{above-tiny, tiny-is}
 use Rattle.accuracy.proofs.Difference.{grain, difference-none, difference-some}
 use Rattle.accuracy.proofs.Linear.{ratio-gap, none-bound, some-bound}
-
--- ---- the distance of two numbers of one sign
-gap-sub : (a b : ℕ) → natAbs (pos a -ℤ pos b) ≡ gap a b
-gap-sub a b = go (leb a b) (leb→le a b) (nleb→lt a b)
-  where
-    left : (a b : ℕ) → a ≤ b → b - a ≡ gap a b
-    left a b h = omega arith
-
-    right : (a b : ℕ) → b < a → a - b ≡ gap a b
-    right a b h = omega arith
-
-    go : (t : Bool) → (T t → a ≤ b) → (T (not t) → b < a) → natAbs (pos a -ℤ pos b) ≡ gap a b
-    go true p q = ap natAbs (minus-ge a b (p tt)) ∙ size-neg (pos (b - a)) ∙ left a b (p tt)
-    go false p q = ap natAbs (minus-le a b (le-of-lt (q tt))) ∙ right a b (q tt)
-
-gap-signed : (s : Bool) (a b : ℕ) → natAbs (signed s a -ℤ signed s b) ≡ gap a b
-gap-signed false a b = gap-sub a b
-gap-signed true a b = ap natAbs (sym (negℤ-+ℤ (pos a) (negℤ (pos b)))) ∙ size-neg (pos a -ℤ pos b) ∙ gap-sub a b
-
-pub value-is : (x : Float) (s : Bool) → Signed x s → value x ≡ signed s (num x)
-value-is nan s h = absurd h
-value-is (inf t) s h = absurd h
-value-is (fin t m e) s h = ap (λ (b : Bool). signed b (m * up e)) (h .0)
 
 pub value-null : (x : Float) → Null x → value x ≡ pos 0
 value-null nan h = absurd h
@@ -66,7 +44,7 @@ active-bound p s w n e f =
     let r = weaken (num p) (den p) (natAbs w) n p-l p-h p-k (2 ^ 23 - 1) (2 ^ 23 + 1) (2 ^ 23) (lit< tt) (lit< tt) (lit≤ tt) (lit≤ tt) (f .ratio) in
     let a : pos n *ℤ value p ≡ signed s (num p * n) = ap (λ (z : ℤ). pos n *ℤ z) (value-is p s (f .is)) ∙ *ℤ-comm (pos n) (signed s (num p)) ∙ signed-scale s (num p) n in
     let b : w *ℤ pos (den p) ≡ signed s (natAbs w * den p) = ap (λ (z : ℤ). z *ℤ pos (den p)) (sym e) ∙ signed-scale s (natAbs w) (den p) in
-    subst (λ (k : ℕ). k * 2 ^ 23 ≤ natAbs w * den p) (sym (ap₂ (λ (x y : ℤ). natAbs (x -ℤ y)) a b ∙ gap-signed s (num p * n) (natAbs w * den p))) (ratio-gap (num p) (den p) (natAbs w) n (2 ^ 23) r)
+    subst (λ (k : ℕ). k * 2 ^ 23 ≤ natAbs w * den p) (sym (ap₂ (λ (x y : ℤ). natAbs (x -ℤ y)) a b ∙ dist-signed s (num p * n) (natAbs w * den p))) (ratio-gap (num p) (den p) (natAbs w) n (2 ^ 23) r)
 
 pub active-null : (p : Float) (w : ℤ) (n : ℕ) → w ≡ pos 0 → Null p → ActiveNear near-p n w p
 active-null p w n e h =
@@ -214,7 +192,7 @@ size-bound f b w v V+ l r =
 
 -- ---- the same said of whole numbers with a sign
 pub within : (a b t k : ℕ) → gap a b * 2 ^ k ≤ t → Within (pos a) (pos b) t k
-within a b t k h = subst (λ (x : ℕ). x * 2 ^ k ≤ t) (sym (gap-sub a b)) h
+within a b t k h = subst (λ (x : ℕ). x * 2 ^ k ≤ t) (sym (dist-pos a b)) h
 
 -- a against b - c
 pub within-less : (a b c t k : ℕ) → c ≤ b → gap (a + c) b * 2 ^ k ≤ t → Within (pos a) (pos b -ℤ pos c) t k

@@ -15,7 +15,7 @@ use Rattle.answers.proofs.Ended.{if-refused, if-done}
 use Rattle.spectrum.specs.Grid.{onGrid}
 use Rattle.fundamental.specs.declared.FundamentalPower.{FundamentalPower}
 use Rattle.fundamental.specs.declared.FundamentalAnswer.{FundamentalAnswer}
-use Rattle.fundamental.specs.Fundamental.{inside, zeroFundamental, fundamentalOf, fundamentalOutcome, fundamentalAnswer}
+use Rattle.fundamental.specs.Fundamental.{zeroFundamental, fundamentalOf, fundamentalOutcome, fundamentalAnswer}
 
 -- what holds of the lengths and the bin where no refusal does
 pub record Unrefused (n m k : ℕ) : Type 0 where

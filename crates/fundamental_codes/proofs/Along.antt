@@ -14,9 +14,10 @@ use Rattle.laws.proofs.Signs.{signOf, by-sign, signed-scale, minus-le, minus-ge
 use Rattle.laws.proofs.Factors.{signed-not}
 use Rattle.laws.proofs.Zero.{Number}
 use Rattle.laws.proofs.Rounded.{Rounded}
+use Rattle.laws.proofs.Distance.{value-is}
 use Rattle.laws.proofs.Bounded.{rounded-signed, rounded-null, rounded-order}
 use Rattle.accuracy.specs.Accuracy.{none, sign}
-use Rattle.accuracy.proofs.Sentences.{value-is, sign-same}
+use Rattle.accuracy.proofs.Sentences.{sign-same}
 
 -- a has b's sign, or is 0
 abbrev pub Along : ℤ → ℤ → Type 0

@@ -25,7 +25,6 @@ use Rattle.spectrum.proofs.Grid.{grid-le}
 use Rattle.accuracy.specs.Accuracy.{Capture, none, sign, SignOf}
 use Rattle.accuracy.proofs.Sentences.{number-finite}
 use Rattle.fundamental.specs.declared.FundamentalPower.{FundamentalPower}
-use Rattle.fundamental.specs.declared.FundamentalAnswer.{FundamentalAnswer}
 use Rattle.fundamental.specs.Fundamental.{inPhase, across, scaledOf, fundamentalFigures, fundamentalOf, zeroFundamental, fundamentalOutcome, fundamentalAnswer}
 use Rattle.fundamental.proofs.Ends.{Unrefused, unrefused}
 use Rattle.fundamental_codes.specs.Exact.{realSum, imagSum, exactActive, exactReactive, activeSize, reactiveSize, sizes}

@@ -11,8 +11,6 @@ use lib.Ieee.Scale.{finite}
 use Rattle.laws.specs.Whole.{value}
 use Rattle.answers.specs.declared.Outcome.the-variants.{Done}
 use Rattle.accuracy.specs.Accuracy.{Capture, none, sign, SignOf}
-use Rattle.fundamental.specs.declared.FundamentalPower.{FundamentalPower}
-use Rattle.fundamental.specs.declared.FundamentalAnswer.{FundamentalAnswer}
 use Rattle.fundamental.specs.Fundamental.{fundamentalAnswer}
 use Rattle.fundamental_codes.specs.Exact.{exactActive, exactReactive, activeSize, reactiveSize, sizes}
 

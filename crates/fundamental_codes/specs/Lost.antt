@@ -15,7 +15,6 @@ use Rattle.quarter.specs.Turn.{fraction, quadrant, sineOf, cosineOf}
 use Rattle.spectrum.specs.Grid.{lengths, onGrid}
 use Rattle.spectrum.specs.Bin.{stepOf, angleOf, turned, sumsTo, sumsOf}
 use Rattle.accuracy.specs.Accuracy.{none, plus, sign, samplesOf}
-use Rattle.fundamental.specs.declared.FundamentalPower.{FundamentalPower}
 use Rattle.fundamental.specs.declared.FundamentalAnswer.{FundamentalAnswer}
 use Rattle.fundamental.specs.Fundamental.{inPhase, across, scaledOf, fundamentalFigures, fundamentalOf, fundamentalOutcome, fundamentalAnswer}
 use Rattle.fundamental_codes.specs.Exact.{byQuadrant, wholeSine, wholeCosine, realSum, imagSum, exactActive, exactReactive, reactiveSize}

@@ -1,11 +1,11 @@
 -- Sizes that no rounding passes: `Bounded B x` says that x is finite and at most B in size. A format that holds B keeps what it rounds at most B, since rounding
 -- keeps the order. Assumes nothing.
 use mathlib.Core.Path.{_≡_, refl, sym, ap, _∙_, subst}
-use mathlib.Core.Bool.{Bool, true, false, cond, _&&_, _||_, true≢false}
+use mathlib.Core.Bool.{Bool, true, false, cond, true≢false}
 use Prim.Native.Nat.{ℕ, suc, _+_, _*_, _^_, _≤_, _<_}
 use native.Mathlib.Nat.{mul-comm, mul-assoc, mul-one, add-mul, mul-pos, mul-right-comm, mul-mul-mul-comm, mul-le-mul, mul-le-mul-right, le-of-mul-le-mul-right}
-use native.Mathlib.Nat.{le-trans, le-of-eq, le-of-lt, add-le-add, eq-of-mul-eq-mul-right, lt-of-lt-of-le}
-use lib.Dec.{T, ltb, eqb, lit<, ltb→lt, eqb→eq}
+use native.Mathlib.Nat.{le-trans, le-of-eq, add-le-add, eq-of-mul-eq-mul-right, lt-of-lt-of-le}
+use lib.Dec.{T, ltb, lit<, ltb→lt}
 use lib.Pow.{pow-pos}
 use lib.IntN.{ℤ, pos, negℤ, natAbs, _+ℤ_, _-ℤ_, _*ℤ_}
 use lib.Ieee.{Float, nan, inf, fin, Format, prec, low, up, down, odd, units, round, add, sub, mul, div, le}
@@ -21,7 +21,7 @@ use Rattle.laws.proofs.Close.{own, cross, round-is-grid}
 use Rattle.laws.proofs.Size.{Signed}
 use Rattle.laws.proofs.Zero.{Null, Number, null-num, null-round}
 use Rattle.laws.proofs.Over.{Over}
-use Rattle.laws.proofs.Quotients.{round-unsigned}
+use Rattle.laws.proofs.Quotients.{level-or-below, round-unsigned}
 use Rattle.laws.proofs.Rounded.{Rounded, rounded-size, add-rounded, sub-rounded, mul-rounded, div-rounded}
 
 -- ---- rounding keeps the order
@@ -36,14 +36,6 @@ at-most-finite (inf false) (inf t) b d u v h = absurd v
 at-most-finite (inf false) (fin t n k) b d u v h = absurd h
 at-most-finite (fin s m e) y b d u v h = tt
 
-not-above : (a b : ℕ) → T (ltb a b || (eqb a b && true)) → a ≤ b
-not-above a b = go (ltb a b) (eqb a b) (ltb→lt a b) (eqb→eq a b)
-  where
-    go : (x y : Bool) → (T x → a < b) → (T y → a ≡ b) → T (x || (y && true)) → a ≤ b
-    go true y p q t = le-of-lt (p tt)
-    go false true p q t = le-of-eq (q tt)
-    go false false p q t = absurd t
-
 -- the order of two floats is that of any fractions that they equal: the converse of `le-of-values` (`lib.Ieee.Order`)
 le-values : (x y : Float) (a c b d : ℕ) → HasValue x false a c → HasValue y false b d → T (le x y) → a * d ≤ b * c
 unfolding le
@@ -54,7 +46,7 @@ le-values (fin false m e) nan a c b d v w h = absurd w
 le-values (fin false m e) (inf t) a c b d v w h = absurd w
 le-values (fin false m e) (fin true n k) a c b d v w h = absurd (true≢false (w .0))
 le-values (fin false m e) (fin false n k) a c b d v w h =
-    transfer a b c d (m * up e) (n * up k) (down e) (down k) (down-pos e) (down-pos k) (sym (v .1)) (sym (w .1)) (not-above (m * up e * down k) (n * up k * down e) h)
+    transfer a b c d (m * up e) (n * up k) (down e) (down k) (down-pos e) (down-pos k) (sym (v .1)) (sym (w .1)) (level-or-below (m * up e * down k) (n * up k * down e) h)
 
 pub rising : (f : Format) (a c b d : ℕ) → 0 < c → 0 < d → a * d ≤ b * c → grid f b d < overflow f → (grid f a c < overflow f) × (grid f a c ≤ grid f b d)
 rising f a c b d C D h under =

@@ -65,7 +65,7 @@ pub dist-left : (a b : ℤ) → natAbs b ≤ natAbs a + dist a b
 dist-left a b =
     le-trans (le-of-eq (ap natAbs (sym (+ℤ-comm a (b -ℤ a) ∙ -ℤ-+ℤ-cancel b a)))) (le-trans (size-add a (b -ℤ a)) (add-le-add (le-of-eq refl) (le-of-eq (dist-swap b a))))
 
-dist-pos : (a b : ℕ) → dist (pos a) (pos b) ≡ gap a b
+pub dist-pos : (a b : ℕ) → dist (pos a) (pos b) ≡ gap a b
 dist-pos a b = go (leb a b) (leb→le a b) (nleb→lt a b)
   where
     left : (a b : ℕ) → a ≤ b → b - a ≡ gap a b
@@ -78,7 +78,7 @@ dist-pos a b = go (leb a b) (leb→le a b) (nleb→lt a b)
     go true p q = ap natAbs (minus-ge a b (p tt)) ∙ size-neg (pos (b - a)) ∙ left a b (p tt)
     go false p q = ap natAbs (minus-le a b (le-of-lt (q tt))) ∙ right a b (q tt)
 
-dist-signed : (s : Bool) (a b : ℕ) → dist (signed s a) (signed s b) ≡ gap a b
+pub dist-signed : (s : Bool) (a b : ℕ) → dist (signed s a) (signed s b) ≡ gap a b
 dist-signed false a b = dist-pos a b
 dist-signed true a b = dist-neg (pos a) (pos b) ∙ dist-pos a b
 
@@ -121,7 +121,7 @@ module _ (f : Format) (a c B : ℕ) (C : 0 < c) (B+ : 0 < B) (h : a ≤ B * c) w
       (le-of-eq (ap (λ (x : ℕ). gap x n * 2 ^ p) e ∙ ap (λ (x : ℕ). gap (kept p n c * u) n * x) (sym (twice-half f)) ∙ sym (mul-assoc (gap (kept p n c * u) n) 2 (2 ^ (p - 1)))))
       (le-trans (mul-le-mul-right (2 ^ (p - 1)) (half n u (mul-pos C (pow-pos k)))) unit-small)
 
-value-is : (x : Float) (s : Bool) → Signed x s → value x ≡ signed s (num x)
+pub value-is : (x : Float) (s : Bool) → Signed x s → value x ≡ signed s (num x)
 value-is nan s h = absurd h
 value-is (inf t) s h = absurd h
 value-is (fin t m e) s h = ap (λ (b : Bool). signed b (m * up e)) (h .0)

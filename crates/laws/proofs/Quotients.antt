@@ -15,7 +15,7 @@ use lib.Ieee.Positive.{through}
 use Rattle.laws.specs.Samples.{unsigned}
 use Rattle.laws.proofs.NotNumber.{lt-nan}
 
-level-or-below : (a b : ℕ) → T (ltb a b || (eqb a b && true)) → a ≤ b
+pub level-or-below : (a b : ℕ) → T (ltb a b || (eqb a b && true)) → a ≤ b
 level-or-below a b = go (ltb a b) (eqb a b) (ltb→lt a b) (eqb→eq a b)
   where
     go : (x y : Bool) → (T x → a < b) → (T y → a ≡ b) → T (x || (y && true)) → a ≤ b

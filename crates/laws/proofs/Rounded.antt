@@ -3,7 +3,6 @@ use mathlib.Core.Path.{_≡_, refl, sym, ap, ap₂, _∙_, subst}
 use mathlib.Core.Bool.{Bool, true, false, cond, not}
 use Prim.Native.Nat.{ℕ, _+_, _-_, _*_, _≤_, _<_}
 use native.Mathlib.Nat.{le-of-lt, mul-one, sub-eq-zero-of-le}
-use native.Mathlib.Omega.{arith}
 use borrow.Author.Tests.{ne-eqb}
 use lib.Dec.{T, ltb, eqb, ltb→lt, nltb→le}
 use lib.IntN.{ℤ, pos, negℤ, natAbs, _+ℤ_, _-ℤ_, _*ℤ_, +ℤ-comm, negℤ-+ℤ}
@@ -14,7 +13,7 @@ use Rattle.laws.specs.Whole.{signed, value}
 use Rattle.laws.proofs.Signs.{size-signed, signed-scale, signed-mul, size-mul, minus-le, minus-ge}
 use Rattle.laws.proofs.Factors.{times-one, signed-not}
 use Rattle.laws.proofs.Whole.{rescaled}
-use Rattle.laws.proofs.Size.{Signed}
+use Rattle.laws.proofs.Size.{Signed, pos-ne}
 use Rattle.laws.proofs.Zero.{Number}
 
 pub record Rounded (f : Format) (x : Float) (z : ℤ) (c : ℕ) : Type 0 where
@@ -99,9 +98,6 @@ unlike-false : (s : Bool) → unlike s false ≡ s
 unlike-false false = refl
 unlike-false true = refl
 
-not-null : (a : ℕ) → 0 < a → a ≡ 0 → ⊥
-not-null a h e = omega arith
-
 -- by a number above 0
 pub div-rounded : (f : Format) (x y : Float) → Number x → Signed y false → 0 < num y → Rounded f (div f x y) (value x *ℤ pos (den y)) (num y * den x)
 unfolding div
@@ -114,7 +110,7 @@ div-rounded f (fin s m e) (fin t n d) p q h =
       side = s;
       amount = m * up e * down d;
       is =
-          ap (λ (b : Bool). cond b (cond (eqb m 0) nan (inf (unlike s t))) (round f (unlike s t) (m * up e * down d) (n * up d * down e))) (ne-eqb n 0 (not-null n (first-pos n (up d) h)))
+          ap (λ (b : Bool). cond b (cond (eqb m 0) nan (inf (unlike s t))) (round f (unlike s t) (m * up e * down d) (n * up d * down e))) (ne-eqb n 0 (pos-ne n (first-pos n (up d) h)))
           ∙ ap (λ (b : Bool). round f (unlike s b) (m * up e * down d) (n * up d * down e)) (q .0)
           ∙ ap (λ (b : Bool). round f b (m * up e * down d) (n * up d * down e)) (unlike-false s);
       whole = sym (signed-scale s (m * up e) (down d));

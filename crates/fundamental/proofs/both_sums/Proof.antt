@@ -1,6 +1,6 @@
 -- `fundamental::both_sums` meets its contract. The invariant: the angle is that of place j, and each capture's sums are those of its first j samples. The
 -- measure is what is left of the samples. Assumes nothing.
-use borrow.Author.Needs.{needs, scaled-fits}
+use borrow.Author.Needs.{needs}
 use mathlib.Core.Path.{_≡_, refl, sym, ap, _∙_}
 use Prim.Native.Nat.{ℕ, _+_, _-_, _*_, _/_, _%_, _≤_, _<_}
 use native.Mathlib.Nat.{mod-lt}

@@ -1,6 +1,5 @@
 -- `fundamental::of_bin` meets its contract. Assumes nothing.
 use borrow.Author.Needs.{needs}
-use native.Mathlib.Omega.{arith}
 use Rattle.spectrum.proofs.Grid.{grid-le}
 use Rattle.fundamental.specs.Fundamental.{fundamentalOf}
 use Rattle.fundamental.proofs.of_bin.Statement.{statement}
