@@ -8,7 +8,7 @@ use Rattle.laws.specs.Literals.{zero32}
 use Rattle.fundamental.specs.declared.FundamentalAnswer.{FundamentalAnswer}
 use Rattle.fundamental.specs.Fundamental.{fundamentalAnswer}
 
--- y is x with the other sign, of a zero too; or both are +0, as where the two products of the difference are equal
+-- y is x with the other sign, of a zero too; or both are +0, as where the two products of the difference are equal and not zeros
 abbrev pub Negated : Float → Float → Type 0
 Negated x y = (y ≡ neg x) ⊎ ((x ≡ zero32) × (y ≡ zero32))
 

@@ -44,25 +44,25 @@ Light = (x : ℕ → ℤ) (n m : ℕ) → ((j : ℕ) → j < n → natAbs (x j) 
 abbrev pub NotAgainst : ℤ → Float → Type 0
 NotAgainst d f = SignOf d f ⊎ (sign (value f) ≡ none)
 
--- no figure ever has the wrong sign
+-- no figure of a light call has the wrong sign
 abbrev pub NeverWrong : Type 0
 NeverWrong =
     (v i : List Float) (x y : ℕ → ℤ) (k : ℕ) → LightCall v i x y k
     → NotAgainst (exactActive x y (length v) k) (fundamentalAnswer v i k .power .active)
     × NotAgainst (exactReactive x y (length v) k) (fundamentalAnswer v i k .power .reactive)
 
--- the exact sum or difference is more than one part in 2^52 of its two products
+-- the exact sum or difference d is more than one part in 2^52 of s, the sizes of its two products added up
 abbrev pub ClearOfZero : ℕ → ℤ → Type 0
 ClearOfZero s d = s < 2 ^ 52 * natAbs d
 
--- and a figure that is so clear of zero has the right sign, and is no zero
+-- and where it is so clear of zero the figure has its sign, and is no zero
 abbrev pub RightSign : Type 0
 RightSign =
     (v i : List Float) (x y : ℕ → ℤ) (k : ℕ) → LightCall v i x y k
     → (ClearOfZero (activeSize x y (length v) k) (exactActive x y (length v) k) → SignOf (exactActive x y (length v) k) (fundamentalAnswer v i k .power .active))
     × (ClearOfZero (reactiveSize x y (length v) k) (exactReactive x y (length v) k) → SignOf (exactReactive x y (length v) k) (fundamentalAnswer v i k .power .reactive))
 
--- ---- every capture of codes: the sums are rounded too
+-- ---- every capture of codes: the sums may be rounded too
 
 -- beyond all that the roundings of n pairs come to, in units of 2^-60
 abbrev pub Beyond : ℕ → ℤ → Type 0

@@ -122,7 +122,7 @@ fn print_row(current: &str, shown: Shown) {
 
 /// Both tables, in Markdown: currents at 256 samples, and the worst of every length.
 pub fn print() -> ExitCode {
-    println!("| current, of height 1 | fundamental active | fundamental reactive | nonactive |");
+    println!("| current, from a sine of height 1 | fundamental active | fundamental reactive | nonactive |");
     println!("|---|---:|---:|---:|");
     for lag in (0..=360).step_by(30) {
         print_row(&format!("sine, lagging by {lag} degrees"), lagging(256, 1, lag as f64));
