@@ -1,5 +1,5 @@
 -- Where rounding ends what can be said: two captures of eight codes whose exact difference is above 0 and whose reactive figure is a zero. The two products, whose sizes add up to
--- less than 2^55 times their difference, round to the same f64. Beside them 02's example. Computed over the definitions. Assumes nothing.
+-- less than 2^54 times their difference, round to the same f64. Beside them 02's example. Computed over the definitions. Assumes nothing.
 use Prim.Native.Nat.{_*_, _^_, _<_}
 use mathlib.Core.Path.{_≡_, refl}
 use mathlib.Core.List.{List, [], _∷_}
@@ -20,10 +20,10 @@ use Rattle.fundamental.specs.Fundamental.{inPhase, across, scaledOf, fundamenta
 use Rattle.fundamental_codes.specs.Exact.{byQuadrant, wholeSine, wholeCosine, realSum, imagSum, exactActive, exactReactive, reactiveSize}
 
 abbrev volts : List ℤ
-volts = pos 457 ∷ negsuc 0 ∷ pos 537 ∷ negsuc 0 ∷ pos 0 ∷ pos 0 ∷ pos 0 ∷ pos 0 ∷ []
+volts = pos 108 ∷ negsuc 2 ∷ pos 105 ∷ pos 0 ∷ pos 0 ∷ pos 0 ∷ pos 0 ∷ pos 0 ∷ []
 
 abbrev amps : List ℤ
-amps = pos 497 ∷ pos 0 ∷ pos 584 ∷ negsuc 0 ∷ pos 0 ∷ pos 0 ∷ pos 0 ∷ pos 0 ∷ []
+amps = pos 5110 ∷ pos 0 ∷ pos 4968 ∷ negsuc 1 ∷ pos 0 ∷ pos 0 ∷ pos 0 ∷ pos 0 ∷ []
 
 abbrev found : FundamentalAnswer
 found = fundamentalAnswer (samplesOf volts) (samplesOf amps) 1
@@ -32,7 +32,7 @@ pub lost :
     (found .outcome ≡ Done)
     × (sign (exactReactive (codeAt volts) (codeAt amps) 8 1) ≡ plus)
     × (found .power .reactive ≡ ofBits binary32 0)
-    × (reactiveSize (codeAt volts) (codeAt amps) 8 1 < 2 ^ 55 * natAbs (exactReactive (codeAt volts) (codeAt amps) 8 1))
+    × (reactiveSize (codeAt volts) (codeAt amps) 8 1 < 2 ^ 54 * natAbs (exactReactive (codeAt volts) (codeAt amps) 8 1))
 unfolding fundamentalAnswer fundamentalOutcome fundamentalOf fundamentalFigures inPhase across scaledOf ifDone onGrid lengths sumsOf sumsTo turned angleOf
     stepOf sineOf cosineOf quadrant fraction quarterTable narrow add sub mul div neg ofInt ofBits exactReactive reactiveSize realSum imagSum wholeSine
     wholeCosine byQuadrant products
