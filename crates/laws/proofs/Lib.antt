@@ -9,6 +9,7 @@ pub mod Squares
 pub mod Size
 pub mod Zero
 pub mod Turn
+pub mod HowMany
 pub mod Numbers
 pub mod Filling
 pub mod Tested

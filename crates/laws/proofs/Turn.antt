@@ -1,4 +1,4 @@
--- One turn more is one step more. Assumes nothing.
+-- One turn more is one step more; the first sample first. Assumes nothing.
 use mathlib.Core.Path.{_≡_, refl, sym, ap, _∙_}
 use mathlib.Core.List.{List, [], _∷_}
 use Prim.Native.Nat.{ℕ, zero, suc, _+_, _-_, _≤_}
@@ -14,6 +14,12 @@ module _ {A : Type 0} where
       → t ≡ over f a xs k → x ≡ getD xs k nan → f t x ≡ over f a xs (k + 1)
   unfolding over
   over-next f a xs k p q = rw add-one (cc)
+
+  -- the first sample first
+  pub over-front : (f : A → Float → A) (a : A) (x : Float) (xs : List Float) (k : ℕ) → over f a (x ∷ xs) (suc k) ≡ over f (f a x) xs k
+  unfolding over
+  over-front f a x xs zero = refl
+  over-front f a x xs (suc k) = ap (λ (t : A). f t (getD xs k nan)) (over-front f a x xs k)
 
   -- where the walk begins at a place
   pub over-from : (f : A → Float → A) (a : A) (xs : List Float) (from k : ℕ) → over f a (drop from xs) (suc k) ≡ f (over f a (drop from xs) k) (getD xs (from + k) nan)

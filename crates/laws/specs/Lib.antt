@@ -2,6 +2,7 @@
 pub mod Whole
 pub mod Walks
 pub mod Samples
+pub mod HowMany
 pub mod Filled
 pub mod Front
 pub mod Literals

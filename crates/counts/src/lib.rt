@@ -1,0 +1,2 @@
+// How many samples are no number, and how many are infinite.
+pub mod parts;
