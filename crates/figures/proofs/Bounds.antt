@@ -1,4 +1,4 @@
--- A count is at most as large as the number of samples that were looked at. Assumes nothing.
+-- A rise and a fall have at most as many samples as were looked at. Assumes nothing.
 use mathlib.Core.Bool.{Bool, true, false, cond, _&&_}
 use mathlib.Core.List.{List}
 use Prim.Native.Nat.{ℕ, zero, suc, _+_, _-_, _≤_}
@@ -6,28 +6,11 @@ use native.Mathlib.Omega.{arith}
 use lib.Dec.{eqb}
 use lib.ListN.{length}
 use lib.Ieee.{Float, lt, le}
-use Rattle.generator.specs.declared.Wave.{Wave}
-use Rattle.laws.specs.Walks.{over, pairs}
+use Rattle.laws.specs.Walks.{pairs}
 use Rattle.figures.specs.declared.edges.Edges.{Edges}
-use Rattle.figures.specs.Duty.{isHigh, tally, highsOf}
 use Rattle.figures.specs.Edges.{riseNumber, fallNumber, noEdge, riseBegins, riseCounts, fallBegins, fallCounts, edgeAt, edgesOf}
 
--- ---- high samples
-module _ (wave : Wave) (amplitude : Float) (xs : List Float) where
-  pub tallied-le : (k : ℕ) → over (tally wave amplitude) 0 xs k ≤ k
-  unfolding over
-  tallied-le zero = omega arith
-  tallied-le (suc k) = go (isHigh wave amplitude _) _ (tallied-le k)
-    where
-      go : (b : Bool) (n : ℕ) → n ≤ k → cond b (n + 1) n ≤ suc k
-      go true n h = omega arith
-      go false n h = omega arith
-
-  pub highs-le : highsOf wave amplitude xs ≤ length xs
-  unfolding highsOf
-  highs-le = tallied-le (length xs)
-
--- ---- rise and fall: at most k and at most l samples
+-- at most k and at most l samples of a rise and a fall
 pub record Within (k l : ℕ) (s : Edges) : Type 0 where
   pub rise : s .rise ≤ k
   pub fall : s .fall ≤ l

@@ -14,11 +14,13 @@ use Rattle.laws.specs.Literals.{zero32, zero64, count32}
 use Rattle.laws.specs.Quotients.{ratioOrZero}
 use Rattle.laws.specs.Samples.{higher, lower, squareOf}
 use Rattle.laws.specs.Walks.{over, pairs}
+use Rattle.laws.specs.HowMany.{counting, howMany}
+use Rattle.laws.proofs.Turn.{over-front}
 use Rattle.laws.proofs.NotNumber.{sub-nan, nan-sub, lt-nan, nan-lt, le-nan, nan-le}
 use Rattle.number.specs.Number.{narrow, root, abs}
 use Rattle.timing.specs.Timing.{totalOf, narrowedMean, risesAt, crossingAt, noCrossing, crossingsOf, frequencyFrom, frequencyAbout, slewAt, steepestOf, slewOf}
 use Rattle.figures.specs.Levels.{maxOf, minOf, adding, sumOf, away, averageOf, rectifiedOf, dcRmsOf, acRmsOf}
-use Rattle.figures.specs.Duty.{millionth, near, isHigh, tally, highsOf}
+use Rattle.figures.specs.Duty.{millionth, near, isHigh, highsOf}
 use Rattle.figures.specs.Edges.{RiseFall, nothingYet, riseStarts, riseGrows, fallStarts, fallGrows, fourTests, riseFallOf}
 use Rattle.figures.specs.Ratios.{crestOf, periodOf, excessOf}
 use Rattle.figures.proofs.NanSums.{by-then}
@@ -30,15 +32,10 @@ and-false false = refl
 
 -- ---- a walk over the samples, from the front
 module _ {A : Type 0} (f : A → Float → A) where
-  over-front : (a : A) (x : Float) (xs : List Float) (k : ℕ) → over f a (x ∷ xs) (suc k) ≡ over f (f a x) xs k
-  unfolding over
-  over-front a x xs zero = refl
-  over-front a x xs (suc k) = ap (λ (t : A). f t (getD xs k nan)) (over-front a x xs k)
-
   -- a step that takes no notice of a NaN: the walk is that of the other samples
   pub left-out : ((a : A) → f a nan ≡ a) → (a : A) (xs ys : List Float) → over f a (xs ++ nan ∷ ys) (length (xs ++ nan ∷ ys)) ≡ over f a (xs ++ ys) (length (xs ++ ys))
-  left-out h a [] ys = over-front a nan ys (length ys) ∙ ap (λ (t : A). over f t ys (length ys)) (h a)
-  left-out h a (x ∷ xs) ys = over-front a x (xs ++ nan ∷ ys) _ ∙ (left-out h (f a x) xs ys ∙ sym (over-front a x (xs ++ ys) _))
+  left-out h a [] ys = over-front f a nan ys (length ys) ∙ ap (λ (t : A). over f t ys (length ys)) (h a)
+  left-out h a (x ∷ xs) ys = over-front f a x (xs ++ nan ∷ ys) _ ∙ (left-out h (f a x) xs ys ∙ sym (over-front f a x (xs ++ ys) _))
 
 -- ---- one NaN among any samples: xs before it, ys after it
 abbrev pub withNan : List Float → List Float → List Float
@@ -77,8 +74,8 @@ module _ (xs ys : List Float) where
   not-high Sawtooth amplitude = lt-nan zero32
 
   pub nan-highs : (wave : Wave) (amplitude : Float) → highsOf wave amplitude (withNan xs ys) ≡ highsOf wave amplitude (xs ++ ys)
-  unfolding highsOf
-  nan-highs wave amplitude = left-out (tally wave amplitude) (λ (n : ℕ). ap (λ (b : Bool). cond b (n + 1) n) (not-high wave amplitude)) 0 xs ys
+  unfolding highsOf howMany
+  nan-highs wave amplitude = left-out (counting (isHigh wave amplitude)) (λ (n : ℕ). ap (λ (b : Bool). cond b (n + 1) n) (not-high wave amplitude)) 0 xs ys
 
   -- the means and RMS values are NaN
   pub nan-average : averageOf (withNan xs ys) ≡ nan
@@ -175,7 +172,7 @@ nans-min zero = refl
 nans-min (suc n) = nan-min [] (nans n) ∙ nans-min n
 
 pub nans-highs : (wave : Wave) (amplitude : Float) (n : ℕ) → highsOf wave amplitude (nans n) ≡ 0
-unfolding highsOf over
+unfolding highsOf howMany over
 nans-highs wave amplitude zero = refl
 nans-highs wave amplitude (suc n) = nan-highs [] (nans n) wave amplitude ∙ nans-highs wave amplitude n
 

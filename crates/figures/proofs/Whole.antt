@@ -8,6 +8,8 @@ use Rattle.laws.specs.Literals.{one32, count32}
 use Rattle.laws.specs.Quotients.{ratioOrZero}
 use Rattle.number.specs.Number.{root}
 use Rattle.timing.specs.Timing.{narrowedMean, frequencyAbout, slewOf}
+use Rattle.counts.specs.declared.parts.Counts.{Counts}
+use Rattle.counts.specs.Counts.{countsOf}
 use Rattle.figures.specs.declared.levels.Extremes.{Extremes}
 use Rattle.figures.specs.declared.levels.Sums.{Sums}
 use Rattle.figures.specs.declared.levels.Levels.{Levels}
@@ -34,8 +36,8 @@ unfolding averageOf rectifiedOf dcRmsOf acRmsOf
 levels-whole xs e s av sp dq dc aq ac re = rw (re, ac, aq, dc, dq, sp, av, s, e)
 
 -- ---- the figures
-abbrev figuresWith : Levels → (amplitude duty : Float) → Times → (crest hertz period form over under slew : Float) → TimeFigures
-figuresWith l amplitude duty times crest hertz period form over under slew =
+abbrev figuresWith : Levels → (amplitude duty : Float) → Times → (crest hertz period form over under slew : Float) → Counts → TimeFigures
+figuresWith l amplitude duty times crest hertz period form over under slew counts =
     record {
       «peak_to_peak» = sub binary32 (l .max) (l .min);
       max = l .max;
@@ -56,15 +58,18 @@ figuresWith l amplitude duty times crest hertz period form over under slew =
       overshoot = over;
       undershoot = under;
       «slew_rate» = slew;
+      «not_numbers» = counts .«not_numbers»;
+      infinite = counts .infinite;
     }
 
-pub figures-whole : (wave : Wave) (amplitude frequency : Float) (xs : List Float) {l : Levels} {duty : Float} {times : Times} {rate crest hertz period form over under slew : Float}
+pub figures-whole : (wave : Wave) (amplitude frequency : Float) (xs : List Float) {l : Levels} {duty : Float} {times : Times} {rate crest hertz period form over under slew : Float} {counts : Counts}
     → l ≡ levelsOf xs → duty ≡ dutyOf wave amplitude xs
     → times ≡ timesOf (edgesBetween (l .min) (sub binary32 (l .max) (l .min)) xs) frequency (length xs)
     → rate ≡ count32 (length xs) → hertz ≡ frequencyAbout (l .average) xs rate → slew ≡ slewOf xs rate
     → crest ≡ crestOf (l .max) (l .min) (l .«dc_rms») → period ≡ periodOf hertz → form ≡ ratioOrZero (l .«dc_rms») (l .rectified)
     → over ≡ excessOf (l .max) amplitude (sub binary32 (l .max) (l .min)) → under ≡ excessOf (neg amplitude) (l .min) (sub binary32 (l .max) (l .min))
-    → figuresWith l amplitude duty times crest hertz period form over under slew ≡ figuresOf wave amplitude frequency xs
+    → counts ≡ countsOf xs
+    → figuresWith l amplitude duty times crest hertz period form over under slew counts ≡ figuresOf wave amplitude frequency xs
 unfolding figuresOf
-figures-whole wave amplitude frequency xs l du ti ra he sl cr pe fo ov un =
-    rw (un, ov, fo, pe, cr, sl, he, ra, ti, du, l, rise-time, fall-time)
+figures-whole wave amplitude frequency xs l du ti ra he sl cr pe fo ov un co =
+    rw (co, un, ov, fo, pe, cr, sl, he, ra, ti, du, l, rise-time, fall-time)

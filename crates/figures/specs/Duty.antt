@@ -1,11 +1,11 @@
 -- The duty cycle (01, 'Rules taken from the Rust'). Definitions only.
-use Prim.Native.Nat.{ℕ, _+_}
-use mathlib.Core.Bool.{Bool, cond}
+use Prim.Native.Nat.{ℕ}
+use mathlib.Core.Bool.{Bool}
 use mathlib.Core.List.{List}
 use lib.ListN.{length}
 use lib.Ieee.{Float, binary32, sub, div, lt, ofBits}
 use Rattle.laws.specs.Literals.{zero32, count32}
-use Rattle.laws.specs.Walks.{over}
+use Rattle.laws.specs.HowMany.{howMany}
 use Rattle.number.specs.Number.{abs}
 use Rattle.generator.specs.declared.Wave.{Wave}
 use Rattle.generator.specs.declared.Wave.the-variants.{DC, PWM, Triangular, Sawtooth}
@@ -25,12 +25,8 @@ isHigh PWM amplitude x = near amplitude x
 isHigh Triangular amplitude x = lt zero32 x
 isHigh Sawtooth amplitude x = lt zero32 x
 
--- one more where the sample is high
-abbrev pub tally : Wave → Float → ℕ → Float → ℕ
-tally wave amplitude n x = cond (isHigh wave amplitude x) (n + 1) n
-
 unfoldable pub highsOf : Wave → Float → List Float → ℕ
-highsOf wave amplitude xs = over (tally wave amplitude) 0 xs (length xs)
+highsOf wave amplitude xs = howMany (isHigh wave amplitude) xs
 
 -- the part of the samples that are high
 unfoldable pub dutyOf : Wave → Float → List Float → Float

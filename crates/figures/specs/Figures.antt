@@ -1,4 +1,5 @@
--- The 19 time figures of a capture (01, item 5: "steps 1 to 9 of `calculate_metrics`, 19 of the 24 fields of `SignalMetrics`"), one definition each, and the answer. Definitions only.
+-- The 19 time figures of a capture (01, item 5: "steps 1 to 9 of `calculate_metrics`, 19 of the 24 fields of `SignalMetrics`"), one definition each, the two counts (02, h:
+-- "Add both counts to the record that all readers share"), and the answer. Definitions only.
 -- No sample rate is given. For frequency, period and slew rate the samples are one second, so that the rate is their count: the Rust's "Buffer represents 1 second of
 -- data (sample_rate == num_samples)". For rise and fall time they are one period of the frequency handed in where that is above 0 (Edges.antt, `sampleTimeOf`).
 use mathlib.Core.Bool.{cond}
@@ -13,6 +14,7 @@ use Rattle.generator.specs.declared.Wave.{Wave}
 use Rattle.laws.specs.Literals.{zero32, one32, count32}
 use Rattle.laws.specs.Quotients.{ratioOrZero}
 use Rattle.timing.specs.Timing.{frequencyAbout, slewOf}
+use Rattle.counts.specs.Counts.{notNumbersOf, infiniteOf}
 use Rattle.figures.specs.declared.TimeFigures.{TimeFigures}
 use Rattle.figures.specs.declared.TimeAnswer.{TimeAnswer}
 use Rattle.figures.specs.Levels.{maxOf, minOf, averageOf, dcRmsOf, acRmsOf, rectifiedOf}
@@ -67,7 +69,7 @@ hertzOf xs = frequencyAbout (averageOf xs) xs (count32 (length xs))
 abbrev pub slewRateOf : List Float → Float
 slewRateOf xs = slewOf xs (count32 (length xs))
 
--- ---- the record, in SignalMetrics' order
+-- ---- the record: the figures in SignalMetrics' order, then the counts
 
 unfoldable pub figuresOf : Wave → Float → Float → List Float → TimeFigures
 figuresOf wave amplitude frequency xs =
@@ -91,9 +93,11 @@ figuresOf wave amplitude frequency xs =
       overshoot = overshootOf amplitude xs;
       undershoot = undershootOf amplitude xs;
       «slew_rate» = slewRateOf xs;
+      «not_numbers» = notNumbersOf xs;
+      infinite = infiniteOf xs;
     }
 
--- the 19 figures before anything is measured, and after a reset: the Rust's `new` and `reset_waveform` set each to 0.0
+-- the record before anything is measured, and after a reset: the Rust's `new` and `reset_waveform` set each figure to 0.0; 02, h: "`reset_waveform` clears" the counts
 abbrev pub zeroFigures : TimeFigures
 zeroFigures = record {
   «peak_to_peak» = zero32;
@@ -115,6 +119,8 @@ zeroFigures = record {
   overshoot = zero32;
   undershoot = zero32;
   «slew_rate» = zero32;
+  «not_numbers» = 0;
+  infinite = 0;
 }
 
 -- ---- the answer
@@ -122,7 +128,8 @@ zeroFigures = record {
 abbrev pub answer : Outcome → TimeFigures → TimeAnswer
 answer o r = record { outcome = o; figures = r }
 
--- 01, row 3: 3 for more than 65,536 samples, and "an earlier record handed in comes back unchanged"; item 5: "With no samples the earlier record comes back as it was"
+-- 01, row 3: 3 for more than 65,536 samples, and "an earlier record handed in comes back unchanged"; item 5: "With no samples the earlier
+-- record comes back as it was"; 02, h: "with no samples the earlier counts come back with the earlier record"
 unfoldable pub answerOf : Wave → Float → Float → TimeFigures → List Float → TimeAnswer
 answerOf wave amplitude frequency earlier xs =
     cond (tooLong (length xs)) (answer TooLong earlier)

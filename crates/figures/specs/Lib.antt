@@ -4,4 +4,5 @@ pub mod Duty
 pub mod Edges
 pub mod Ratios
 pub mod Figures
+pub mod Counted
 pub mod Shown

@@ -1,7 +1,8 @@
-// The time figures of a capture: extremes, means, duty cycle, rise and fall, crest, frequency, slew rate, overshoot.
+// The time figures of a capture: extremes, means, duty cycle, rise and fall, crest, frequency, slew rate, overshoot; and how many samples were no number or infinite.
 mod duty;
 mod edges;
 mod levels;
+mod nonfinite;
 mod ratios;
 
 ghost use mathlib.Core.Path.{_≡_};
@@ -13,7 +14,7 @@ use answers::LONGEST;
 use answers::Outcome;
 use generator::Wave;
 
-// The fields of the Rust's SignalMetrics in its order, without those of the spectrum.
+// The fields of the Rust's SignalMetrics in its order, without those of the spectrum; then the two counts.
 #[repr(C)]
 pub struct TimeFigures {
     pub peak_to_peak: f32,
@@ -35,6 +36,8 @@ pub struct TimeFigures {
     pub overshoot: f32,
     pub undershoot: f32,
     pub slew_rate: f32,
+    pub not_numbers: u32,
+    pub infinite: u32,
 }
 
 // The figures before anything is measured.
@@ -58,6 +61,8 @@ pub const ZERO_FIGURES: TimeFigures = TimeFigures {
     overshoot: 0.0,
     undershoot: 0.0,
     slew_rate: 0.0,
+    not_numbers: 0,
+    infinite: 0,
 };
 
 // The figures, and how the call ended.
@@ -72,6 +77,7 @@ fn measure(wave: Wave, amplitude: f32, frequency: f32, samples: &[f32]) -> TimeF
     ensures { λ r. ⌜ r ≡ figuresOf wave amplitude frequency (now (samples .entry)) ⌝ }
 {
     let level = levels::levels_of(samples);
+    let counts = nonfinite::counts_of(samples, level.rectified);
     let swing = level.max - level.min;
     let duty = duty::duty_of(wave, amplitude, samples);
     let times = edges::times_of(samples, level.min, swing, frequency);
@@ -98,6 +104,8 @@ fn measure(wave: Wave, amplitude: f32, frequency: f32, samples: &[f32]) -> TimeF
         overshoot: ratios::excess(level.max, amplitude, swing),
         undershoot: ratios::excess(-amplitude, level.min, swing),
         slew_rate: slew,
+        not_numbers: counts.not_numbers,
+        infinite: counts.infinite,
     }
 }
 

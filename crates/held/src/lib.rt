@@ -76,7 +76,7 @@ impl<'a> Signal<'a> {
         self.answer = next;
     }
 
-    // The 19 figures and THD.
+    // The time figures with their counts, and THD.
     pub fn get_metrics(&mut self) -> Metrics
         ensures { λ r. ⌜ left r (now (self .exit)) ≡ left (metricsOf (now (self .entry) .answer .state)) (now (self .entry)) ⌝ }
     {

@@ -1,8 +1,7 @@
-// The 19 time figures.
+// The time record: 19 figures and two counts.
 use figures::TimeFigures;
 use replaying::read;
 use replaying::records;
-use replaying::said;
 use replaying::said::Said;
 
 // The record from word 7 on.
@@ -27,10 +26,12 @@ fn record(line: &[u8]) -> TimeFigures {
         overshoot: read::float(line, 23),
         undershoot: read::float(line, 24),
         slew_rate: read::float(line, 25),
+        not_numbers: read::word(line, 26),
+        infinite: read::word(line, 27),
     }
 }
 
-// The wave, the amplitude, the frequency, the earlier record.
+// The wave, the amplitude, the frequency, the earlier record; the counts answered.
 pub fn call(line: &[u8], a: &[f32]) -> Said {
     let r = figures::calculate_time_figures(
         generator::wave_of(read::byte(line, 4)),
@@ -41,5 +42,5 @@ pub fn call(line: &[u8], a: &[f32]) -> Said {
     );
     let outcome = r.outcome;
     let figures = r.figures;
-    said::floats(outcome, records::figures(figures))
+    records::counted(line, 28, outcome, figures, records::figures(figures))
 }

@@ -4,33 +4,28 @@ use replaying::read;
 use replaying::records;
 use replaying::said;
 use replaying::said::Said;
-use signal::Answer;
-
-fn answered(a: Answer) -> Said {
-    let outcome = a.outcome;
-    let state = a.state;
-    said::floats(outcome, of_signal::list(state))
-}
 
 fn shaped(line: &[u8], out: &mut [f32]) -> Said {
-    answered(sequences::shaped(
+    let a = sequences::shaped(
         generator::wave_of(read::byte(line, 4)),
         read::float(line, 5),
         read::float(line, 6),
         read::float(line, 7),
         read::float(line, 8),
         out,
-    ))
+    );
+    of_signal::answered(line, 9, a)
 }
 
 fn emptied(line: &[u8], out: &mut [f32]) -> Said {
-    answered(sequences::emptied(
+    let a = sequences::emptied(
         generator::wave_of(read::byte(line, 4)),
         read::float(line, 5),
         read::float(line, 6),
         read::float(line, 7),
         out,
-    ))
+    );
+    of_signal::answered(line, 8, a)
 }
 
 fn measured(line: &[u8], out: &mut [f32]) -> Said {
@@ -43,7 +38,8 @@ fn measured(line: &[u8], out: &mut [f32]) -> Said {
     );
     let outcome = answer.outcome;
     let metrics = answer.metrics;
-    said::floats(outcome, of_signal::metrics(metrics))
+    let figures = metrics.figures;
+    records::counted(line, 8, outcome, figures, of_signal::metrics(metrics))
 }
 
 fn powered(line: &[u8], out: &mut [f32]) -> Said {

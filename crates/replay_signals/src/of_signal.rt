@@ -7,7 +7,6 @@ use replaying::lists::ROOM;
 use replaying::read;
 use replaying::read::behind;
 use replaying::records;
-use replaying::said;
 use replaying::said::Said;
 use signal::Answer;
 use signal::Metrics;
@@ -98,16 +97,22 @@ fn with_port(list: [f32; ROOM], port: Port) -> [f32; ROOM] {
 }
 
 // The metrics, the shape and the port.
-pub fn list(state: State) -> [f32; ROOM] {
+fn list(state: State) -> [f32; ROOM] {
     let xs = metrics(signal::get_metrics(state));
     let shape = state.shape;
     let port = state.port;
     with_port(with_shape(xs, shape), port)
 }
 
-pub fn call(line: &[u8], which: u32, out: &mut [f32]) -> Said {
-    let a = set_up(line, made(line, which, out), out);
+// The counts are those at the words i and i + 1.
+pub fn answered(line: &[u8], i: usize, a: Answer) -> Said {
     let outcome = a.outcome;
     let state = a.state;
-    said::floats(outcome, list(state))
+    let metrics = signal::get_metrics(state);
+    let figures = metrics.figures;
+    records::counted(line, i, outcome, figures, list(state))
+}
+
+pub fn call(line: &[u8], which: u32, out: &mut [f32]) -> Said {
+    answered(line, 14, set_up(line, made(line, which, out), out))
 }

@@ -3,6 +3,7 @@ use crate::lists::ROOM;
 use crate::read;
 use crate::said;
 use crate::said::Said;
+use answers::Outcome;
 use figures::TimeFigures;
 use port::Reading;
 use power::PowerAnswer;
@@ -23,6 +24,16 @@ pub fn power(r: PowerAnswer) -> Said {
     xs[1] = r.power.nonactive;
     xs[2] = r.power.s;
     xs[3] = r.power.pf;
+    said::floats(outcome, xs)
+}
+
+// The outcome and these, where the record's counts are the words i and i + 1; no f32 holds every count.
+pub fn counted(line: &[u8], i: usize, outcome: Outcome, r: TimeFigures, xs: [f32; ROOM]) -> Said {
+    let not_numbers = read::word(line, i);
+    let infinite = read::word(line, read::behind(i, 1));
+    if (not_numbers != r.not_numbers) | (infinite != r.infinite) {
+        return said::nothing();
+    }
     said::floats(outcome, xs)
 }
 

@@ -1,6 +1,7 @@
--- Laws that the proofs cite. Assumes nothing.
+-- Laws that the proofs cite, and what is claimed. Assumes nothing.
 mod Whole
 pub mod Ends
 pub mod Sequence
+pub mod Counted
 pub mod SequencePort
 pub mod Shown

@@ -146,7 +146,7 @@ measured-figures : (top : ℕ) (s : State) (xs : List Float) → Taken xs → eq
 unfolding withMeasured answerOf
 measured-figures top s xs h k = rw (h .0, k)
 
-made-figures : (top : ℕ) (s : State) (xs : List Float) → Taken xs → eqb (length xs) 0 ≡ false
+pub made-figures : (top : ℕ) (s : State) (xs : List Float) → Taken xs → eqb (length xs) 0 ≡ false
     → stateOf (made top s xs) .metrics .figures ≡ figuresOf (shapeIn (made top s xs) .wave) (shapeIn (made top s xs) .amplitude) (shapeIn (made top s xs) .frequency) (made top s xs .places)
 unfolding made withMeasured
 made-figures top s xs h k =
@@ -166,7 +166,7 @@ module _ (top : ℕ) (l : SignalLeft) (c : Setting) (h : Taken (l .places)) wher
   abbrev set : SignalLeft
   set = next top l (setting c)
 
-  -- the 19 figures are those of the samples and the shape that the setting leaves; of no samples, the earlier ones stay
+  -- the record is that of the samples and the shape that the setting leaves; of no samples, the earlier one stays
   pub figures-set : eqb (length (l .places)) 0 ≡ false → stateOf set .metrics .figures ≡ figuresOf (shapeIn set .wave) (shapeIn set .amplitude) (shapeIn set .frequency) (set .places)
   figures-set k = rw (next-set top l c h) (made-figures top (withSetting (stateOf l) c) (l .places) h k)
 

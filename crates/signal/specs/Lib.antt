@@ -1,4 +1,5 @@
--- What the contracts cite. Assumes nothing.
+-- What the contracts cite, and what is claimed of calls in a row. Assumes nothing.
 pub mod State
 pub mod Calls
 pub mod Sequence
+pub mod Counted

@@ -130,6 +130,6 @@ asPort s voltage current frequency = record {
   metrics = s .metrics;
 }
 
--- 01, "`get_metrics` gives the 19 figures and THD"
+-- 01, "`get_metrics` gives the 19 figures and THD"; 02, h: the counts are in "the record that all readers share"
 abbrev pub metricsOf : State → Metrics
 metricsOf s = s .metrics

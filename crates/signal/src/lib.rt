@@ -12,7 +12,7 @@ use generator::Wave;
 use port::Port;
 use port::Reading;
 
-// What is measured of a signal: the 19 figures and THD.
+// What is measured of a signal: the time figures with their two counts, and THD.
 pub struct Metrics {
     pub figures: TimeFigures,
     pub thd: f32,
@@ -91,7 +91,7 @@ pub fn reset_waveform(state: State, samples: &mut [f32]) -> Answer
     }
 }
 
-// The 19 figures and THD.
+// The time figures with their counts, and THD.
 pub fn get_metrics(state: State) -> Metrics
     ensures { λ r. ⌜ r ≡ metricsOf state ⌝ }
 {

@@ -1,12 +1,17 @@
 -- `figures::measure` meets its contract. The record of its parts. Assumes nothing.
 use borrow.Author.Needs.{needs}
+use mathlib.Core.Path.{ap}
 use denote.Ref.{now}
+use Rattle.figures.specs.declared.levels.Levels.{Levels}
 use Rattle.figures.proofs.Whole.{figures-whole}
 use Rattle.figures.proofs.measure.Statement.{statement}
 use Rattle.figures.proofs.measure.Tie as tie
 
 levels-of-requires : tie.Need-levels-of-requires
 levels-of-requires c κs = search needs
+
+counts-of-requires : tie.Need-counts-of-requires
+counts-of-requires c κs = (c .before .before .pre, ap (λ (l : Levels). l .rectified) (c .levels-of .ensures))
 
 duty-of-requires : tie.Need-duty-of-requires
 duty-of-requires c κs = search needs
@@ -49,17 +54,19 @@ returns c =
     let rate = hertz .before in
     let times = rate .before in
     let duty = times .before in
-    let level = duty .before .before in
+    let counts = duty .before .before in
+    let level = counts .before in
     let a = level .before .before .args in
     figures-whole (a .wave) (a .amplitude) (a .frequency) (now (a .samples)) (level .levels-of .ensures) (duty .duty-of .ensures) (times .times-of .ensures)
     (rate .counted .ensures) (hertz .frequency .ensures) (slew .slew .ensures) (crest .crest .ensures) (period .period .ensures) (form .ratio .ensures)
-    (overshoot .excess .ensures) (c .excess2 .ensures)
+    (overshoot .excess .ensures) (c .excess2 .ensures) (counts .counts-of .ensures)
 
 pub measure-spec : {M : Type 1} → statement M
 measure-spec =
     tie.close
     (tie.spec
     levels-of-requires
+    counts-of-requires
     duty-of-requires
     times-of-requires
     counted-requires

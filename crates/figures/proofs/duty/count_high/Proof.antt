@@ -6,14 +6,15 @@ use native.Mathlib.Omega.{arith}
 use lib.ListN.{length}
 use denote.Ref.{now}
 use Rattle.laws.specs.Walks.{over}
+use Rattle.laws.specs.HowMany.{counting, howMany}
 use Rattle.laws.proofs.Turn.{over-next}
-use Rattle.figures.specs.Duty.{tally, highsOf}
-use Rattle.figures.proofs.Bounds.{tallied-le}
+use Rattle.laws.proofs.HowMany.{counted-le}
+use Rattle.figures.specs.Duty.{isHigh, highsOf}
 use Rattle.figures.proofs.duty.count_high.Statement.{statement}
 use Rattle.figures.proofs.duty.count_high.Tie as tie
 
 abbrev Inv-loop : tie.InvT-loop
-Inv-loop wave amplitude samples n₀ k₀ n k = (k ≤ length samples) × (n ≡ over (tally wave amplitude) 0 samples k)
+Inv-loop wave amplitude samples n₀ k₀ n k = (k ≤ length samples) × (n ≡ over (counting (isHigh wave amplitude)) 0 samples k)
 
 abbrev μ-loop : tie.MeasureT-loop
 μ-loop wave amplitude samples n₀ k₀ n k = length samples - k
@@ -35,7 +36,7 @@ tallied-requires : tie.Need-tallied-requires Inv-loop μ-loop
 tallied-requires c κs =
     let l = c .before .before .before .loop in
     let a = c .before .before .before .before .before .args in
-    rw (l .inv .1) (omega (arith, tallied-le (a .wave) (a .amplitude) (now (a .samples)) (l .k)))
+    rw (l .inv .1) (omega (arith, counted-le (isHigh (a .wave) (a .amplitude)) (now (a .samples)) (l .k)))
 
 add-k : tie.Need-add-k Inv-loop μ-loop
 add-k c = search needs
@@ -47,10 +48,10 @@ loop-again : tie.Need-loop-again Inv-loop μ-loop
 loop-again c =
     let l = c .before .before .before .before .loop in
     let a = c .before .before .before .before .before .before .args in
-    (omega arith, rw (c .tallied .ensures, c .before .is-high .ensures) (over-next (tally (a .wave) (a .amplitude)) 0 (now (a .samples)) (l .k) (l .inv .1) refl))
+    (omega arith, rw (c .tallied .ensures, c .before .is-high .ensures) (over-next (counting (isHigh (a .wave) (a .amplitude))) 0 (now (a .samples)) (l .k) (l .inv .1) refl))
 
 returns : tie.Need-returns Inv-loop μ-loop
-unfolding highsOf
+unfolding highsOf howMany
 returns c =
     let l = c .before .loop in
     let e : l .k ≡ length (now (c .before .before .before .args .samples)) = omega arith in

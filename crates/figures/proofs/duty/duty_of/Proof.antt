@@ -2,8 +2,8 @@
 use borrow.Author.Needs.{needs}
 use native.Mathlib.Omega.{arith}
 use denote.Ref.{now}
-use Rattle.figures.specs.Duty.{dutyOf}
-use Rattle.figures.proofs.Bounds.{highs-le}
+use Rattle.laws.proofs.HowMany.{how-many-le}
+use Rattle.figures.specs.Duty.{isHigh, highsOf, dutyOf}
 use Rattle.figures.proofs.duty.duty_of.Statement.{statement}
 use Rattle.figures.proofs.duty.duty_of.Tie as tie
 
@@ -14,9 +14,10 @@ cast-counted : tie.Need-cast-counted
 cast-counted c = search needs
 
 counted-requires : tie.Need-counted-requires
+unfolding highsOf
 counted-requires c κs =
     let a = c .before .before .args in
-    rw (c .count-high .ensures) (omega (arith, highs-le (a .wave) (a .amplitude) (now (a .samples))))
+    rw (c .count-high .ensures) (omega (arith, how-many-le (isHigh (a .wave) (a .amplitude)) (now (a .samples))))
 
 counted-requires-2 : tie.Need-counted-requires-2
 counted-requires-2 c κs = search needs
