@@ -1,7 +1,8 @@
-/* A probe's main loop in small: a capture is read, its power worked out, its voltage timed and a bad line named.
+/* A probe's main loop in small: a capture is read, its power worked out, its voltage timed, a bad line named and a bad sample told.
  * bash examples/run.sh builds the library, compiles this with -Wall -Wextra -Werror and runs it. */
 #include "tilljingle.h"
 
+#include <math.h>
 #include <stdio.h>
 #include <string.h>
 
@@ -13,6 +14,17 @@ static size_t pairs_of(const char *text, int16_t *volts, int16_t *amps) {
   if (read.code != 0)
     printf("refused %u at line %zu\n", (unsigned)read.code, read.line);
   return read.pairs;
+}
+
+/* the largest sample, which doesn't show a NaN, and the counts, which do */
+static uint8_t print_figures(const float *samples, size_t n) {
+  tj_time_figures none = {0};
+  tj_time_answer answer = tj_calculate_time_figures(0, 1.0f, 0.0f, none, samples, n);
+  if (answer.code != 0)
+    return answer.code;
+  printf("largest of %zu samples %g; %u are no number, %u infinite\n", n, (double)answer.figures.max,
+         (unsigned)answer.figures.not_numbers, (unsigned)answer.figures.infinite);
+  return 0;
 }
 
 int main(void) {
@@ -37,6 +49,10 @@ int main(void) {
   if (fundamental.code != 0)
     return 1;
   printf("fundamental: active %g, reactive %g\n", (double)fundamental.active, (double)fundamental.reactive);
+
+  static const float broken[] = {3, NAN, -1, -INFINITY, NAN};
+  if (print_figures(broken, 5) != 0)
+    return 1;
 
   float samples[16];
   tj_signal_answer signal = tj_signal_new(1, 5.0f, 2.0f, samples, 16);

@@ -1,18 +1,21 @@
-//! The time figures, against `calculate_metrics`.
+//! The time record: its figures against `calculate_metrics`, its counts against a reading of document 02.
 
-use crate::common::{bits32, black_box, list32, Check, Kind, Log, Random, Table, KINDS};
+mod counts;
+mod damage;
+
+use crate::common::{all_same32, bits32, black_box, list32, Check, Kind, Log, Random, Table, KINDS};
 use crate::generator::wave_of;
 use crate::signal::{Signal, SignalMetrics};
-use std::mem::transmute;
+pub use counts::Counts;
 use tilljingle::raw::{tj_calculate_time_figures, TimeAnswer};
 use tilljingle::TimeFigures;
 
 /// Random records of a full comparison.
 pub const ROUNDS: u64 = 400_000;
 
-/// The 19 figures that both records have, by name; the other fields are 0.
+/// The 19 figures that both records have, by name, and the other fields.
 macro_rules! figures_of {
-    ($from:expr, $to:ident, $($zero:ident)*) => {
+    ($from:expr, $to:ident, $($other:ident: $value:expr),*) => {
         $to {
             peak_to_peak: $from.peak_to_peak,
             max: $from.max,
@@ -33,29 +36,39 @@ macro_rules! figures_of {
             overshoot: $from.overshoot,
             undershoot: $from.undershoot,
             slew_rate: $from.slew_rate,
-            $($zero: 0.0,)*
+            $($other: $value,)*
         }
     };
 }
 
-pub fn figures_of(metrics: &SignalMetrics) -> TimeFigures {
-    figures_of!(metrics, TimeFigures,)
+pub fn figures_of(metrics: &SignalMetrics, counts: Counts) -> TimeFigures {
+    figures_of!(metrics, TimeFigures, not_numbers: counts.not_numbers, infinite: counts.infinite)
 }
 
 pub fn metrics_of(figures: &TimeFigures) -> SignalMetrics {
-    figures_of!(figures, SignalMetrics, thd snr sinad enob sfdr)
+    figures_of!(figures, SignalMetrics, thd: 0.0, snr: 0.0, sinad: 0.0, enob: 0.0, sfdr: 0.0)
 }
 
 /// The figures one after the other.
-pub fn list(figures: TimeFigures) -> [f32; 19] {
-    unsafe { transmute(figures) }
+fn list(figures: &TimeFigures) -> [f32; 19] {
+    metrics_of(figures).tail_time()
 }
 
-/// Figures that may be any.
+/// The same numbers, and the same counts.
+pub fn same_figures(a: &TimeFigures, b: &TimeFigures) -> bool {
+    all_same32(&list(a), &list(b)) && Counts::in_record(a) == Counts::in_record(b)
+}
+
+/// The bits of the figures, and the counts.
+fn shown(figures: &TimeFigures) -> String {
+    format!("{} {:?}", list32(&list(figures)), Counts::in_record(figures))
+}
+
+/// A record that may be any.
 pub fn any_figures(random: &mut Random) -> TimeFigures {
-    let mut values = [0.0; 19];
+    let mut values = [0.0; 24];
     random.fill(Kind::Mixed, &mut values);
-    unsafe { transmute(values) }
+    figures_of(&SignalMetrics::tail_from(&values), Counts::any(random))
 }
 
 /// The most samples that are taken.
@@ -77,7 +90,7 @@ impl Record {
             self.wave,
             bits32(self.amplitude),
             bits32(self.frequency),
-            list32(&list(self.earlier)),
+            shown(&self.earlier),
             list32(&self.samples)
         )
     }
@@ -95,7 +108,7 @@ impl Record {
         }
     }
 
-    fn theirs(&self) -> TimeFigures {
+    fn theirs(&self) -> SignalMetrics {
         let mut samples = self.samples.clone();
         let earlier = metrics_of(&self.earlier);
         let mut signal = Signal::tail_over(
@@ -106,21 +119,26 @@ impl Record {
             &mut samples,
         );
         signal.tail_calculate();
-        figures_of(&signal.get_metrics())
+        signal.get_metrics()
     }
 
-    /// Every field, and the number of the answer. A refused record is to bring the earlier one.
-    fn see(&self, log: &mut Log, check: Check) {
-        let (code, expected) = if self.samples.len() > LONGEST {
-            (3, self.earlier)
-        } else {
-            (0, self.theirs())
-        };
-        let answer = self.ours();
-        log.see_all32(check, &list(answer.figures), &list(expected), || self.words());
-        if answer.code != code {
-            log.see(check, false, || format!("{}: code {}", self.words(), answer.code));
+    /// The number of the answer, and the record. A refused call is to bring the earlier one.
+    fn expected(&self) -> (u8, TimeFigures) {
+        if self.samples.len() > LONGEST {
+            return (3, self.earlier);
         }
+        let counts = Counts::in_record(&self.earlier).after(&self.samples);
+        (0, figures_of(&self.theirs(), counts))
+    }
+
+    /// Every field, and the number.
+    fn see(&self, log: &mut Log, check: Check) {
+        let (answer, (code, expected)) = (self.ours(), self.expected());
+        let same = answer.code == code && same_figures(&answer.figures, &expected);
+        log.see(check, same, || {
+            let (ours, theirs) = (shown(&answer.figures), shown(&expected));
+            format!("{}: {} {}, not {} {}", self.words(), answer.code, ours, code, theirs)
+        });
     }
 }
 
@@ -200,20 +218,36 @@ fn random_record(random: &mut Random, round: u64) -> Record {
     }
 }
 
-/// What the short captures are made of.
-const ALPHABET: [f32; 7] = [-1.0, -0.0, 0.0, 0.5, 1.0, f32::NAN, f32::INFINITY];
+/// What the short captures are made of: -1, -0, 0, 1/2, 1, NaN, infinity.
+const ALPHABET: [u32; 7] = [
+    0xBF80_0000,
+    0x8000_0000,
+    0,
+    0x3F00_0000,
+    0x3F80_0000,
+    0x7FC0_0000,
+    0x7F80_0000,
+];
 
-/// The capture of this length with this number, below 7 to the length.
-fn short_capture(number: usize, length: u32) -> Vec<f32> {
-    (0..length).map(|i| ALPHABET[number / 7usize.pow(i) % 7]).collect()
+/// Samples with these bits. That they have them in memory is looked at: a NaN may lose some where it is moved as a number.
+fn of_bits(words: &[u32]) -> Vec<f32> {
+    let samples: Vec<f32> = words.iter().map(|bits| f32::from_bits(*bits)).collect();
+    let lent = unsafe { std::slice::from_raw_parts(samples.as_ptr() as *const u32, words.len()) };
+    assert_eq!(lent, words);
+    samples
 }
 
-/// Every capture of up to five samples of the alphabet, for every wave.
-fn compare_short(log: &mut Log) {
-    let check = log.check("tj_calculate_time_figures: every capture of up to 5 of -1, -0, 0, 1/2, 1, NaN, inf");
-    let earlier: TimeFigures = unsafe { transmute([7f32; 19]) };
+/// Every capture of up to five samples of this alphabet, for every wave.
+fn compare_short(log: &mut Log, check: Check, alphabet: &[u32]) {
+    let counts = Counts {
+        not_numbers: u32::MAX,
+        infinite: 7,
+    };
+    let earlier = figures_of(&SignalMetrics::tail_from(&[7.0; 24]), counts);
+    let size = alphabet.len();
     for length in 0..=5 {
-        for number in 0..7usize.pow(length) {
+        for number in 0..size.pow(length) {
+            let words: Vec<u32> = (0..length).map(|i| alphabet[number / size.pow(i) % size]).collect();
             for (wave, amplitude, frequency) in [
                 (0, 1.0, 0.0),
                 (1, 1.0, 0.0),
@@ -221,13 +255,12 @@ fn compare_short(log: &mut Log) {
                 (2, 0.5, 1.0),
                 (3, -1.0, 50.0),
             ] {
-                let samples = short_capture(number, length);
                 Record {
                     wave,
                     amplitude,
                     frequency,
                     earlier,
-                    samples,
+                    samples: of_bits(&words),
                 }
                 .see(log, check);
             }
@@ -236,12 +269,14 @@ fn compare_short(log: &mut Log) {
 }
 
 pub fn compare(rounds: u64, log: &mut Log) {
-    compare_short(log);
+    let check = log.check("tj_calculate_time_figures: every capture of up to 5 of -1, -0, 0, 1/2, 1, NaN, inf");
+    compare_short(log, check, &ALPHABET);
     let check = log.check("tj_calculate_time_figures: random records");
     let mut random = Random::new(5);
     for round in 0..rounds {
         random_record(&mut random, round).see(log, check);
     }
+    damage::compare(rounds, log);
 }
 
 pub fn bench(table: &mut Table) {
@@ -250,10 +285,13 @@ pub fn bench(table: &mut Table) {
     let noise = random.samples(Kind::Small, n);
     let wave: Vec<f32> = (0..n).map(|i| (i as f32 * 0.0107).sin() + 0.01 * noise[i]).collect();
     let pulses: Vec<f32> = (0..n).map(|i| if i % 409 < 100 { 1.0 } else { 0.0 }).collect();
+    let mut damaged = noise.clone();
+    damaged[n - 1] = f32::NAN;
     for (name, wave, samples) in [
         ("calculate_time_figures, noise", 0, noise),
         ("calculate_time_figures, a sine with noise", 2, wave),
         ("calculate_time_figures, PWM", 1, pulses),
+        ("calculate_time_figures, noise and a last NaN", 0, damaged),
     ] {
         let record = Record {
             wave,

@@ -10,6 +10,7 @@ mod slices;
 mod wrong;
 
 use crate::common::{Kind, Random, KINDS};
+use crate::figures::Counts;
 use crate::lines::LONGEST;
 use std::process::ExitCode;
 use wrong::{Case, Field};
@@ -113,6 +114,16 @@ impl Given {
         }
     }
 
+    /// With the counts that are to be answered, behind the other numbers: no f32 holds every count.
+    fn counted(&self, counts: Option<Counts>) -> Given {
+        let mut given = self.clone();
+        for count in counts.iter().flat_map(|counts| [counts.not_numbers, counts.infinite]) {
+            given.answers.push((given.words.len(), wrong::COUNT));
+            given.words.push(count);
+        }
+        given
+    }
+
     /// Numbers, and a slice that may be written to.
     fn into(words: Vec<u32>, out: Vec<f32>) -> Given {
         Given {
@@ -122,12 +133,13 @@ impl Given {
     }
 }
 
-/// What it answers: a number of 01's table, an f64, f32; and the slice afterwards.
+/// What it answers: a number of 01's table, an f64, f32; the counts of a time record; and the slice afterwards.
 #[derive(Default)]
 pub struct Said {
     code: u32,
     wide: f64,
     floats: Vec<f32>,
+    counts: Option<Counts>,
     out: Vec<f32>,
 }
 
@@ -199,6 +211,7 @@ fn lengths(given: &Given) -> [usize; 3] {
 
 impl Lines {
     fn line(&mut self, which: u32, given: &Given, said: &Said) {
+        let given = &given.counted(said.counts);
         let mut words = vec![0, self.item, which, given.words.len() as u32];
         words.extend(&given.words);
         for list in [&given.a, &given.b, &given.out] {

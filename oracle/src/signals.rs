@@ -1,8 +1,9 @@
 //! Signal by value, against the Rust's `Signal`: sequences of calls, every field and every sample after each.
-//! THD is within 0.05 points of the Rust's where 01 claims it, and always that of a reading of 01 over a table made here.
+//! THD is within 0.05 points of the Rust's where 01 claims it, and always that of a reading of 01 over a table made here. The two counts come from a reading
+//! of 02 over the Rust's samples.
 
 use crate::common::{all_same32, black_box, list32, same32, Check, Kind, Log, Random, Table};
-use crate::figures::{any_figures, figures_of, list, metrics_of};
+use crate::figures::{any_figures, figures_of, metrics_of, same_figures, Counts};
 use crate::generator::wave_of;
 use crate::port::{self, port_of, same_port, ABSENT};
 use crate::signal::{Signal, SignalMetrics, SignalType, TailSettings};
@@ -40,8 +41,8 @@ const GRID: [(usize, u64); 14] = [
 /// What stands before and after the samples lent, and must stay.
 const BESIDE: f32 = -77.25;
 
-/// What the Rust's signal keeps.
-fn settings_of(signal: &Signal, wave: u8) -> Settings {
+/// What the Rust's signal keeps, and these counts.
+fn settings_of(signal: &Signal, wave: u8, counts: Counts) -> Settings {
     let settings = signal.tail_settings();
     let metrics = signal.get_metrics();
     Settings {
@@ -51,7 +52,7 @@ fn settings_of(signal: &Signal, wave: u8) -> Settings {
         frequency: settings.frequency,
         duty_cycle: settings.duty_cycle,
         port: port_of(signal),
-        figures: figures_of(&metrics),
+        figures: figures_of(&metrics, counts),
         thd: metrics.thd,
     }
 }
@@ -61,7 +62,7 @@ fn zero() -> Settings {
     let mut signal = Signal::new(SignalType::DC, 0.0, 0.0, &mut []);
     signal.reset_power_params();
     signal.set_state(false, false);
-    let mut state = settings_of(&signal, 0);
+    let mut state = settings_of(&signal, 0, Counts::default());
     state.duty_cycle = 0.0;
     state
 }
@@ -70,7 +71,7 @@ fn same(a: &Settings, b: &Settings) -> bool {
     let numbers = |s: &Settings| [s.amplitude, s.phase, s.frequency, s.duty_cycle, s.thd];
     a.wave == b.wave
         && all_same32(&numbers(a), &numbers(b))
-        && all_same32(&list(a.figures), &list(b.figures))
+        && same_figures(&a.figures, &b.figures)
         && same_port(&a.port, &b.port)
 }
 
@@ -101,6 +102,14 @@ impl Call {
             Call::Duty(duty) if duty.is_nan() => signal.set_duty_cycle(f32::NAN),
             Call::Duty(duty) => signal.set_duty_cycle(duty),
             Call::Reset => signal.reset_waveform(),
+        }
+    }
+
+    /// What the counts are after it, on these samples.
+    fn counts(self, earlier: Counts, samples: &[f32]) -> Counts {
+        match self {
+            Call::Reset => Counts::default(),
+            _ => earlier.after(samples),
         }
     }
 }
@@ -255,6 +264,7 @@ fn refused_length(random: &mut Random) -> (usize, u8) {
 struct Checks {
     quarter: Quarter,
     fields: Check,
+    counts: Check,
     samples: Check,
     settings: Check,
     thd: Check,
@@ -272,7 +282,8 @@ impl Checks {
     fn open(log: &mut Log) -> Checks {
         Checks {
             quarter: Quarter::new(),
-            fields: log.check("after each call: number 0, settings, 19 figures and the port"),
+            fields: log.check("after each call: number 0, settings, 19 figures, both counts and the port"),
+            counts: log.check("after a call that is to leave a count above 0: both counts"),
             samples: log.check("after each call: every sample"),
             settings: log.check("after each port setting in between: every field"),
             thd: log.check("THD at a usable bin: 01 read over a table made here, bit for bit"),
@@ -312,19 +323,26 @@ impl Checks {
     }
 
     /// Everything but THD. The Rust goes on with this THD, so that every call starts from the same state.
-    fn see(&self, log: &mut Log, code: u8, ours: &Settings, buffer: &[f32], theirs: &mut Signal) {
+    fn see(&self, log: &mut Log, answer: SignalAnswer, buffer: &[f32], theirs: &mut Signal, counts: Counts) {
+        let (code, ours) = (answer.code, &answer.signal);
         let metrics = SignalMetrics {
             thd: ours.thd,
             ..theirs.get_metrics()
         };
         theirs.tail_set_metrics(&metrics);
         theirs.set_voltage_thd(Some(ours.thd));
-        let expected = settings_of(theirs, ours.wave);
+        let expected = settings_of(theirs, ours.wave, counts);
         let wave = ours.wave < 4 && wave_of(ours.wave) == theirs.tail_settings().wave_type;
         let same = code == 0 && wave && same(ours, &expected);
         log.see(self.fields, same, || {
             format!("{}: {:?}, Rust {:?}", code, ours, expected)
         });
+        let counted = Counts::in_record(&ours.figures);
+        if counts != Counts::default() {
+            log.see(self.counts, counted == counts, || {
+                format!("{:?}, not {:?}", ours, counts)
+            });
+        }
         let n = theirs.get_samples().len();
         let beside = buffer[0] == BESIDE && buffer[n + 1] == BESIDE;
         let same = beside && all_same32(&buffer[1..n + 1], theirs.get_samples());
@@ -361,6 +379,23 @@ impl Checks {
         }
     }
 
+    /// One call that has a state already.
+    fn step(&mut self, log: &mut Log, call: Call, state: &mut Settings, lent: &mut [f32], signal: &mut Signal) {
+        let (thd, counts) = (state.thd, Counts::in_record(&state.figures));
+        let n = signal.get_samples().len();
+        let answer = call.ours(*state, &mut lent[1..n + 1]);
+        call.theirs(signal);
+        *state = answer.signal;
+        match call {
+            Call::Reset => log.see32(self.cleared, state.thd, signal.get_metrics().thd, || {
+                format!("{:?}", state)
+            }),
+            _ => self.see_thd(log, thd, state, signal),
+        }
+        let counts = call.counts(counts, signal.get_samples());
+        self.see(log, answer, lent, signal, counts);
+    }
+
     /// One signal of n samples, and up to 19 calls on it.
     fn sequence(&mut self, log: &mut Log, random: &mut Random, n: usize) {
         let mut ours = vec![BESIDE; n + 2];
@@ -368,31 +403,21 @@ impl Checks {
         let (answer, mut signal) = begin(random, &mut ours[1..n + 1], &mut theirs);
         let mut state = answer.signal;
         self.see_thd(log, 0.0, &state, &signal);
-        self.see(log, answer.code, &state, &ours, &mut signal);
+        let counts = Counts::default().after(signal.get_samples());
+        self.see(log, answer, &ours, &mut signal, counts);
         for _ in 0..random.below(CALLS) {
             match random.below(12) {
                 0 | 1 => {
+                    let counts = Counts::in_record(&state.figures);
                     port::set(random, &mut state.port, &mut signal);
-                    let expected = settings_of(&signal, state.wave);
+                    let expected = settings_of(&signal, state.wave, counts);
                     log.see(self.settings, same(&state, &expected), || {
                         format!("{:?}, Rust {:?}", state, expected)
                     });
                 }
                 2 => self.see_refused(log, random, &state),
                 3 => disturb(random, &mut state, &mut signal),
-                _ => {
-                    let (call, earlier) = (call(random), state.thd);
-                    let answer = call.ours(state, &mut ours[1..n + 1]);
-                    call.theirs(&mut signal);
-                    state = answer.signal;
-                    match call {
-                        Call::Reset => log.see32(self.cleared, state.thd, signal.get_metrics().thd, || {
-                            format!("{:?}", state)
-                        }),
-                        _ => self.see_thd(log, earlier, &state, &signal),
-                    }
-                    self.see(log, answer.code, &state, &ours, &mut signal);
-                }
+                _ => self.step(log, call(random), &mut state, &mut ours, &mut signal),
             }
         }
     }

@@ -25,7 +25,7 @@ pub struct Fundamental {
     pub reactive: f32,
 }
 
-/// The 19 time figures, in the order of the Rust's `SignalMetrics`.
+/// The 19 time figures, in the order of the Rust's `SignalMetrics`, and two counts of samples that are no finite numbers.
 ///
 /// No sample rate is given: for frequency, period and slew rate the samples are one second; for rise and fall time they are one period of the
 /// frequency handed in where that is above 0, and else one second.
@@ -70,6 +70,10 @@ pub struct TimeFigures {
     pub undershoot: f32,
     /// Largest step between neighbours, over the time between them.
     pub slew_rate: f32,
+    /// How many samples are NaN, whatever their bits. Where this and `infinite` are 0, every sample that was measured is finite.
+    pub not_numbers: u32,
+    /// How many samples are an infinity of either sign.
+    pub infinite: u32,
 }
 
 /// The frequency by rising crossings of the mean; 0 under two crossings. [`Refusal::TooLong`] past 65,536 samples.
@@ -141,7 +145,16 @@ pub fn fundamental_power(voltage: &[f32], current: &[f32], bin: usize) -> Result
     answered(answer.code, Fundamental { active, reactive })
 }
 
-/// The 19 time figures of samples; no samples give the earlier record back. [`Refusal::TooLong`] past 65,536 samples.
+/// The time figures of samples; no samples give the earlier record back, its counts too. [`Refusal::TooLong`] past 65,536 samples.
+///
+/// ```
+/// use tilljingle::{calculate_time_figures, TimeFigures, Wave};
+/// let samples = [3.0, f32::NAN, -1.0, f32::NEG_INFINITY, f32::NAN];
+/// let figures = calculate_time_figures(Wave::DC, 1.0, 0.0, TimeFigures::default(), &samples).unwrap();
+/// assert_eq!((figures.not_numbers, figures.infinite), (2, 1));
+/// assert_eq!(figures.max, 3.0);
+/// assert_eq!(calculate_time_figures(Wave::DC, 1.0, 0.0, figures, &[]).unwrap().not_numbers, 2);
+/// ```
 pub fn calculate_time_figures(
     wave: Wave,
     amplitude: f32,

@@ -30,10 +30,10 @@ impl Settings {
     }
 }
 
-/// The 19 time figures and the total harmonic distortion.
+/// The time figures with their counts, and the total harmonic distortion.
 #[derive(Clone, Copy, Debug, PartialEq)]
 pub struct Metrics {
-    /// The time figures.
+    /// The time figures and the counts.
     pub figures: TimeFigures,
     /// Total harmonic distortion in percent.
     pub thd: f32,
@@ -102,7 +102,7 @@ impl<'a> Signal<'a> {
         self.settle(answer)
     }
 
-    /// Sets every sample to 0 and clears what was worked out of them, as the Rust's `reset_waveform` does.
+    /// Sets every sample to 0 and clears what was worked out of them, as the Rust's `reset_waveform` does, and the counts.
     pub fn reset_waveform(&mut self) -> Result<(), Refusal> {
         let answer =
             unsafe { raw::tj_signal_reset_waveform(self.settings, self.samples.as_mut_ptr(), self.samples.len()) };
@@ -114,7 +114,7 @@ impl<'a> Signal<'a> {
         self.samples
     }
 
-    /// The 19 time figures and the distortion.
+    /// The time figures with their counts, and the distortion.
     pub fn get_metrics(&self) -> Metrics {
         Metrics {
             figures: self.settings.figures,

@@ -119,3 +119,45 @@ fn a_nan_and_too_many_samples() {
     assert_eq!(scale(&mut samples, 2.0), Err(Refusal::TooLong));
     assert!(samples.iter().all(|&x| x == 1.0));
 }
+
+/// NaN, quiet and signalling, of either sign.
+const NOT_NUMBERS: [u32; 4] = [0x7FC0_0000, 0x7F80_0001, 0xFFFF_FFFF, 0xFF80_0001];
+
+#[test]
+fn samples_that_are_no_numbers_are_counted() {
+    let earlier = TimeFigures {
+        max: 5.0,
+        not_numbers: u32::MAX,
+        infinite: 7,
+        ..TimeFigures::default()
+    };
+    let measured = |samples: &[f32]| calculate_time_figures(Wave::PWM, 1.0, 0.0, earlier, samples);
+    let counts = |samples: &[f32]| measured(samples).map(|figures| (figures.not_numbers, figures.infinite));
+    let mut samples = NOT_NUMBERS.map(f32::from_bits).to_vec();
+    assert_eq!(counts(&samples), Ok((4, 0)));
+    samples.extend([f32::INFINITY, 1.0, f32::NEG_INFINITY, f32::MAX, f32::MIN]);
+    assert_eq!(counts(&samples), Ok((4, 2)));
+    assert_eq!(counts(&[f32::MAX, 0.0]), Ok((0, 0)));
+    assert_eq!(measured(&[]), Ok(earlier));
+    let blown = vec![f32::from_bits(0xFF80_0001); 65_537];
+    assert_eq!(counts(&blown[1..]), Ok((65_536, 0)));
+    assert_eq!(measured(&blown), Err(Refusal::TooLong));
+}
+
+#[test]
+fn a_signal_counts_from_call_to_call() {
+    let mut samples = [0.0; 16];
+    let mut signal = Signal::new(Wave::PWM, f32::INFINITY, 4.0, &mut samples).unwrap();
+    let counts = |signal: &Signal| {
+        let figures = signal.get_metrics().figures;
+        (figures.not_numbers, figures.infinite)
+    };
+    assert_eq!(counts(&signal), (0, 8));
+    signal.set_duty_cycle(0.25).unwrap();
+    assert_eq!(counts(&signal), (0, 4));
+    signal.reset_waveform().unwrap();
+    assert_eq!(counts(&signal), (0, 0));
+    // at frequency 0 a triangular wave is NaN throughout
+    let blown = Signal::new(Wave::Triangular, 1.0, 0.0, &mut samples).unwrap();
+    assert_eq!(counts(&blown), (16, 0));
+}

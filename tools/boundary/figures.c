@@ -26,7 +26,42 @@ static tj_time_figures expected(void) {
   figures.overshoot = 75;
   figures.undershoot = 12.5f;
   figures.slew_rate = 128;
+  figures.not_numbers = figures.infinite = 0;
   return figures;
+}
+
+/* samples by their bits: NaN, quiet and signalling, of either sign; the infinities; the largest numbers, which are neither */
+static const union {
+  uint32_t bits[8];
+  float samples[8];
+} damaged = {{0x7FC00000, 0x7F800001, 0xFFFFFFFF, 0xFF800001, 0xFF800000, 0x7F800000, 0x7F7FFFFF, 0xFF7FFFFF}};
+
+static void counts_are(tj_time_answer got, uint32_t not_numbers, uint32_t infinite) {
+  IS(got.code, 0);
+  IS(got.figures.not_numbers, not_numbers);
+  IS(got.figures.infinite, infinite);
+}
+
+/* the first n of those, for every wave; the earlier counts are gone */
+static void check_counts(void) {
+  static const uint32_t not_numbers[] = {1, 2, 3, 4, 4, 4, 4, 4}, infinite[] = {0, 0, 0, 0, 1, 2, 2, 2};
+  for (size_t n = 1; n <= 8; n++)
+    for (uint8_t wave = 0; wave < 4; wave++)
+      counts_are(tj_calculate_time_figures(wave, 1, 4, own_figures(), damaged.samples, n), not_numbers[n - 1], infinite[n - 1]);
+}
+
+/* one sample in all places, and one place more than is taken */
+static void check_many_damaged(uint32_t bits, uint32_t not_numbers, uint32_t infinite) {
+  static union {
+    uint32_t bits[MANY];
+    float samples[MANY];
+  } same;
+  for (int i = 0; i < MANY; i++)
+    same.bits[i] = bits;
+  counts_are(tj_calculate_time_figures(0, 1, 0, own_figures(), same.samples, MANY - 1), not_numbers, infinite);
+  tj_time_answer answer = tj_calculate_time_figures(0, 1, 0, own_figures(), same.samples, MANY);
+  IS(answer.code, 3);
+  figures_are(answer.figures, own_figures());
 }
 
 void check_figures(void) {
@@ -52,4 +87,9 @@ void check_figures(void) {
   answer = tj_calculate_time_figures(3, 1, 4, own_figures(), many, MANY);
   IS(answer.code, 3);
   figures_are(answer.figures, own_figures());
+
+  called("tj_calculate_time_figures, its counts");
+  check_counts();
+  check_many_damaged(0xFF800001, 65536, 0);
+  check_many_damaged(0xFF800000, 0, 65536);
 }

@@ -10,6 +10,7 @@
 
 LONG(bool, 1);
 LONG(float, 4);
+LONG(uint32_t, 4);
 LONG(double, 8);
 LONG(size_t, 8);
 
@@ -32,7 +33,7 @@ AT(tj_fundamental, code, 0);
 AT(tj_fundamental, active, 4);
 AT(tj_fundamental, reactive, 8);
 
-LONG(tj_time_figures, 76);
+LONG(tj_time_figures, 84);
 AT(tj_time_figures, peak_to_peak, 0);
 AT(tj_time_figures, max, 4);
 AT(tj_time_figures, min, 8);
@@ -52,8 +53,10 @@ AT(tj_time_figures, form_factor, 60);
 AT(tj_time_figures, overshoot, 64);
 AT(tj_time_figures, undershoot, 68);
 AT(tj_time_figures, slew_rate, 72);
+AT(tj_time_figures, not_numbers, 76);
+AT(tj_time_figures, infinite, 80);
 
-LONG(tj_time_answer, 80);
+LONG(tj_time_answer, 88);
 AT(tj_time_answer, code, 0);
 AT(tj_time_answer, figures, 4);
 
@@ -94,7 +97,7 @@ AT(tj_port, is_enabled, 400);
 AT(tj_port, is_faulted, 401);
 AT(tj_port, temperature, 404);
 
-LONG(tj_signal, 520);
+LONG(tj_signal, 528);
 AT(tj_signal, wave, 0);
 AT(tj_signal, amplitude, 4);
 AT(tj_signal, phase, 8);
@@ -102,9 +105,9 @@ AT(tj_signal, frequency, 12);
 AT(tj_signal, duty_cycle, 16);
 AT(tj_signal, port, 24);
 AT(tj_signal, figures, 440);
-AT(tj_signal, thd, 516);
+AT(tj_signal, thd, 524);
 
-LONG(tj_signal_answer, 528);
+LONG(tj_signal_answer, 536);
 AT(tj_signal_answer, code, 0);
 AT(tj_signal_answer, signal, 8);
 

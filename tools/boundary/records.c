@@ -41,6 +41,8 @@ tj_time_figures own_figures(void) {
   own.overshoot = 517;
   own.undershoot = 518;
   own.slew_rate = 519;
+  own.not_numbers = 0xFFFFFFFF; /* no f32 holds it */
+  own.infinite = 7;
   return own;
 }
 
@@ -116,6 +118,8 @@ void figures_are(tj_time_figures got, tj_time_figures wanted) {
   IS(got.overshoot, wanted.overshoot);
   IS(got.undershoot, wanted.undershoot);
   IS(got.slew_rate, wanted.slew_rate);
+  IS(got.not_numbers, wanted.not_numbers);
+  IS(got.infinite, wanted.infinite);
 }
 
 #define READING(field) (IS(got.field.present, wanted.field.present), IS(got.field.value, wanted.field.value))

@@ -25,6 +25,12 @@ static void answer_is(tj_signal_answer got, unsigned code, tj_signal wanted) {
   signal_is(got.signal, wanted);
 }
 
+static void counts_are(tj_signal_answer got, uint32_t not_numbers, uint32_t infinite) {
+  IS(got.code, 0);
+  IS(got.signal.figures.not_numbers, not_numbers);
+  IS(got.signal.figures.infinite, infinite);
+}
+
 /* PWM, 4 periods of 8, 8, 0, 0. Its mean square is 32, and its crest factor is 8 over the root, rounded again; a rise counts the sample that starts the fall */
 static void check_new(void) {
   static const float pulses[] = {8, 8, 0, 0, 8, 8, 0, 0, 8, 8, 0, 0, 8, 8, 0, 0};
@@ -103,6 +109,7 @@ static void check_set_phase(void) {
   signal.phase = 90;
   signal.figures = answer.signal.figures; /* these were checked in figures.c */
   IS(signal.figures.dc_rms, 4.898979485566356f);
+  counts_are(answer, 0, 0);
   signal.port.voltage = 4.898979485566356f;
   signal.port.voltage_crest_factor = reading(true, signal.figures.crest_factor);
   signal.port.voltage_thd = reading(true, 0); /* bin 2 is not below half */
@@ -168,6 +175,32 @@ static void check_reset_waveform(void) {
   ARE(samples, silence);
 }
 
+/* the counts from call to call: pulses of minus infinity, as many samples as the duty cycle says; a triangular wave at frequency 0, which is NaN throughout */
+static void check_counts(void) {
+  static const union {
+    uint32_t bits;
+    float value;
+  } minus_infinity = {0xFF800000};
+  called("the counts of a signal");
+  tj_signal_answer answer = tj_signal_new(1, minus_infinity.value, 4, samples, N);
+  counts_are(answer, 0, 8);
+  answer = tj_signal_set_duty_cycle(answer.signal, 0.25f, samples, N);
+  counts_are(answer, 0, 4);
+  answer = tj_signal_set_phase(answer.signal, 90, samples, 4);
+  counts_are(answer, 0, 1);
+  counts_are(tj_signal_set_phase(answer.signal, 90, samples, 0), 0, 1);
+  answer = tj_signal_reset_waveform(answer.signal, samples, N);
+  counts_are(answer, 0, 0);
+
+  answer = tj_signal_new(2, 8, 0, samples, N);
+  counts_are(answer, N, 0);
+  counts_are(tj_signal_reset_waveform(answer.signal, samples, 0), 0, 0);
+  counts_are(tj_signal_set_phase(own_signal(), 90, samples, 0), 0xFFFFFFFF, 7);
+  counts_are(tj_signal_set_duty_cycle(own_signal(), 0.25f, samples, 0), 0xFFFFFFFF, 7);
+  counts_are(tj_signal_new(2, 8, 0, samples, 0), 0, 0);
+  counts_are(tj_signal_new_power_port(minus_infinity.value, 1, reading(false, 0), samples, 4), 0, 4);
+}
+
 /* no length but 0, 1 and powers of two up to 4,096, and none above 65,536: a new signal is the zero state, another comes back as it was */
 static void check_refusals(void) {
   static const struct {
@@ -198,5 +231,6 @@ void check_signal(void) {
   check_set_phase();
   check_set_duty_cycle();
   check_reset_waveform();
+  check_counts();
   check_refusals();
 }

@@ -1,15 +1,15 @@
 //! The limit of 65,536: slices of that many places and of one more. What is refused with 3, and before it what would be refused otherwise, comes from 01.
 
 use super::captures::{ended, pairs, power};
-use super::ports::reading;
-use super::signals::{nothing_shown, shown, with_thd};
+use super::ports::{reading, record};
+use super::signals::{nothing_said, said, with_thd};
 use super::slices::SCRATCH;
 use super::wrong::{Field, PAIR, WHOLE};
 use super::{word, words, Given, Lines, Said, FUNDAMENTAL};
 use crate::generator::wave_of;
 use crate::lines::{self, LONGEST};
 use crate::quality::cut;
-use crate::signal::{self, Signal, SignalMetrics};
+use crate::signal::{self, Signal};
 
 /// The longest slice that is taken, and the shortest that isn't.
 const LENGTHS: [usize; 2] = [LONGEST, LONGEST + 1];
@@ -165,41 +165,40 @@ pub fn signals(lines: &mut Lines) {
     for n in LENGTHS {
         let power_port = [&[word(&2.0), word(&3.0)][..], &reading(Some(50.0))].concat();
         for (which, made) in [(1, vec![1, word(&2.0), word(&3.0), 0]), (2, power_port)] {
-            refused(lines, which, n, &made, &[0, 0, 0], nothing_shown());
+            refused(lines, which, n, &made, &[0, 0, 0], nothing_said());
         }
     }
-    // `new` is on eight samples here, and what is set on n
+    // `new` is on eight samples here, and what is set on n; pulses of infinity leave a count of four
     for n in [3, 12, LONGEST, LONGEST + 1] {
-        for settings in [[1, 0, 0], [2, 0, 0], [3, 0, 0], [3, 2, 1]] {
+        for (wave, amplitude, settings) in [
+            (2, 2.0, [1, 0, 0]),
+            (2, 2.0, [2, 0, 0]),
+            (2, 2.0, [3, 0, 0]),
+            (2, 2.0, [3, 2, 1]),
+            (1, f32::INFINITY, [3, 2, 1]),
+            (2, f32::NAN, [3, 2, 1]),
+        ] {
             let mut eight = [0.0; 8];
-            let mut signal = Signal::new(wave_of(2), 2.0, 1.0, &mut eight);
+            let mut signal = Signal::new(wave_of(wave), amplitude, 1.0, &mut eight);
             with_thd(&mut signal, 0.0);
-            refused(lines, 3, n, &[2, word(&2.0), word(&1.0), 0], &settings, shown(&signal));
+            let made = [wave as u32, word(&amplitude), word(&1.0), 0];
+            refused(lines, 3, n, &made, &settings, said(&signal));
         }
     }
 }
 
 /// The time figures, whose earlier record comes back.
 pub fn figures(lines: &mut Lines) {
-    for n in LENGTHS {
-        let earlier = SignalMetrics::tail_from(&[0; 24].map(|_| lines.random.unit() as f32));
-        let mut list = level(n);
-        let mut signal = Signal::tail_over(wave_of(2), 2.0, 3.0, &earlier, &mut list);
-        if n <= LONGEST {
-            signal.tail_calculate();
+    for x in [1.5, f32::NAN, f32::NEG_INFINITY] {
+        for n in LENGTHS {
+            let earlier = [0; 24].map(|_| lines.random.unit() as f32);
+            record(lines, 2, 2.0, 3.0, &earlier, vec![x; n]);
         }
-        let mut words = vec![2, word(&2.0), word(&3.0)];
-        words.extend(earlier.tail_time().iter().map(word));
-        let said = Said {
-            code: limited(&[n], 0),
-            ..Said::floats(signal.get_metrics().tail_time().to_vec())
-        };
-        lines.line(1, &Given::on(words, level(n)), &said);
     }
 }
 
-/// A signal made so, and three settings, on n samples that are refused: what is shown of its state.
-fn refused(lines: &mut Lines, which: u32, n: usize, made: &[u32], settings: &[u32; 3], floats: Vec<f32>) {
+/// A signal made so, and three settings, on n samples that are refused: what it says.
+fn refused(lines: &mut Lines, which: u32, n: usize, made: &[u32], settings: &[u32; 3], said: Said) {
     let values = [45.0, 0.75, 0.5];
     let settings = settings
         .iter()
@@ -208,7 +207,8 @@ fn refused(lines: &mut Lines, which: u32, n: usize, made: &[u32], settings: &[u3
     let words = made.iter().copied().chain(settings).collect();
     let said = Said {
         code: limited(&[n], 4),
-        ..Said::left(floats, level(n))
+        out: level(n),
+        ..said
     };
     lines.line(which, &Given::into(words, level(n)), &said);
 }

@@ -141,8 +141,9 @@ pub fn signals(lines: &mut Lines) {
         };
         for (k, frequency) in frequencies[..many].iter().enumerate() {
             let settings = [[0, 0, 0], [2, 1, 0], [1, 2, 3 * (k as u32 / 5)]][k % 3];
-            made_signal(lines, n, 3, *frequency, settings);
-            made_signal(lines, n, k as u8 % 3, *frequency, [2, 0, settings[1]]);
+            let out = made(n as u32, n);
+            made_signal(lines, out.clone(), (3, 1.5, *frequency), settings);
+            made_signal(lines, out, (k as u8 % 3, 1.5, *frequency), [2, 0, settings[1]]);
         }
     }
     for n in [64, 4096, 4097] {
@@ -150,16 +151,16 @@ pub fn signals(lines: &mut Lines) {
     }
 }
 
-/// A signal on n places of the rule, and three settings.
-fn made_signal(lines: &mut Lines, n: usize, wave: u8, frequency: f32, settings: [u32; 3]) {
+/// A signal of a wave, an amplitude and a frequency, and three settings.
+pub fn made_signal(lines: &mut Lines, out: Vec<f32>, shape: (u8, f32, f32), settings: [u32; 3]) {
+    let (wave, amplitude, frequency) = shape;
     let value = |setting| if setting == 1 { 100.0 } else { 0.3 };
-    let mut words = vec![wave as u32, word(&1.5), word(&frequency), 0];
+    let mut words = vec![wave as u32, word(&amplitude), word(&frequency), 0];
     words.extend(settings.iter().flat_map(|setting| [*setting, word(&value(*setting))]));
-    let out = made(n as u32, n);
     let mut said = refused(&out);
-    if on_grid(n) {
+    if on_grid(out.len()) {
         let mut samples = out.clone();
-        let mut signal = Signal::new(wave_of(wave), 1.5, frequency, &mut samples);
+        let mut signal = Signal::new(wave_of(wave), amplitude, frequency, &mut samples);
         with_thd(&mut signal, 0.0);
         for setting in settings {
             match setting {

@@ -2,7 +2,9 @@
 
 use super::{word, words, Given, Lines, Said, TINY};
 use crate::common::{Kind, Random};
+use crate::figures::Counts;
 use crate::generator::wave_of;
+use crate::lines::LONGEST;
 use crate::signal::{Signal, SignalMetrics, SignalType};
 
 /// The bits of the f32 nearest to 1e-6.
@@ -37,18 +39,35 @@ pub fn figures(lines: &mut Lines) {
         record(lines, 3, 0.0, 1.0, &[0.0; 24], vec![0.0, f32::from_bits(bits)]);
         record(lines, 0, 0.0, 1.0, &[0.0; 24], vec![f32::from_bits(bits); 2]);
     }
+    // none, some and all of the samples no number, infinite, or the largest number
+    let damage = [f32::NAN, f32::INFINITY, f32::NEG_INFINITY, f32::MAX];
+    for share in [0, 1, 2, 4] {
+        for (wave, n) in [(0, 1), (1, 7), (2, 32)] {
+            let a = (0..n).map(|k| if k % 4 < share { damage[k / 4 % 4] } else { 1.0 });
+            record(lines, wave, 1.0, 0.0, &[0.0; 24], a.collect());
+        }
+    }
 }
 
-/// The 19 figures of these samples.
-fn record(lines: &mut Lines, wave: u8, amplitude: f32, frequency: f32, earlier: &[f32; 24], a: Vec<f32>) {
+/// The record of these samples. What is refused brings the earlier one; its counts have a source of their own.
+pub fn record(lines: &mut Lines, wave: u8, amplitude: f32, frequency: f32, earlier: &[f32; 24], a: Vec<f32>) {
     let earlier = SignalMetrics::tail_from(earlier);
+    let counts = Counts::any(&mut Random::new(lines.cases.len() as u64));
     let mut list = a.clone();
     let mut signal = Signal::tail_over(wave_of(wave), amplitude, frequency, &earlier, &mut list);
-    signal.tail_calculate();
-    let floats = signal.get_metrics().tail_time().to_vec();
+    let refused = a.len() > LONGEST;
+    if !refused {
+        signal.tail_calculate();
+    }
+    let said = Said {
+        code: 3 * refused as u32,
+        counts: Some(counts.after(&a)),
+        ..Said::floats(signal.get_metrics().tail_time().to_vec())
+    };
     let mut words = vec![wave as u32, word(&amplitude), word(&frequency)];
     words.extend(earlier.tail_time().iter().map(word));
-    lines.line(1, &Given::on(words, a), &Said::floats(floats));
+    words.extend([counts.not_numbers, counts.infinite]);
+    lines.line(1, &Given::on(words, a), &said);
 }
 
 /// The words of a reading: whether there is a number, and it.
