@@ -18,11 +18,12 @@ use Rattle.laws.specs.Quotients.{percentOf}
 use Rattle.laws.specs.Samples.{squareOf}
 use Rattle.laws.proofs.NotFinite.{add-beyond, beyond-add, beyond-mul, beyond-div}
 use Rattle.number.specs.Number.{narrow, root, narrowedRoot}
+use Rattle.number.proofs.NotFinite.{narrow-beyond}
 use Rattle.quarter.specs.Table.{quarterTable}
 use Rattle.quarter.specs.Turn.{fraction, quadrant, sineOf, cosineOf}
 use Rattle.spectrum.specs.declared.parts.Sums.{Sums}
 use Rattle.spectrum.specs.Bin.{angleOf, sumsOf, sizeOf, magnitudeOf}
-use Rattle.spectrum.proofs.Unusual.{narrow-beyond, real-beyond}
+use Rattle.spectrum.proofs.Unusual.{real-beyond}
 use Rattle.distortion.specs.Thd.{fundamentalBin, usable, thdFrom, thdAt, thdOf}
 use Rattle.distortion.proofs.NotNumbers.{silent, kept-of, nan-by-cosine, nan-by-sine}
 

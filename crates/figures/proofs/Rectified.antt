@@ -7,30 +7,19 @@ use mathlib.Core.Bool.{Bool, true, false}
 use mathlib.Core.List.{List}
 use lib.Dec.{T}
 use lib.ListN.{length, getD}
-use lib.Ieee.{Float, nan, inf, fin, binary64}
+use lib.Ieee.{Float, nan, binary64}
 use lib.Ieee.Scale.{finite}
 use Rattle.laws.specs.Literals.{zero64, count64}
 use Rattle.laws.specs.Walks.{over}
 use Rattle.laws.proofs.NotFinite.{beyond-add, add-beyond, beyond-div}
-use Rattle.number.specs.Number.{narrow, abs}
+use Rattle.number.specs.Number.{abs}
+use Rattle.number.proofs.NotFinite.{narrow-beyond, abs-beyond}
 use Rattle.timing.specs.Timing.{narrowedMean}
 use Rattle.counts.specs.declared.parts.Counts.{Counts}
 use Rattle.counts.specs.Counts.{countsOf}
 use Rattle.counts.specs.Claims.{AllFinite}
 use Rattle.counts.proofs.Finite.{zero-exactly}
 use Rattle.figures.specs.Levels.{adding, sumOf, rectifiedOf}
-
-size-beyond : (x : Float) → finite x ≡ false → finite (abs x) ≡ false
-unfolding abs
-size-beyond nan h = refl
-size-beyond (inf s) h = refl
-size-beyond (fin s m e) h = absurd (subst T h tt)
-
-narrow-beyond : (x : Float) → finite x ≡ false → finite (narrow x) ≡ false
-unfolding narrow
-narrow-beyond nan h = refl
-narrow-beyond (inf s) h = refl
-narrow-beyond (fin s m e) h = absurd (subst T h tt)
 
 module _ (xs : List Float) (k : ℕ) (h : finite (getD xs k nan) ≡ false) where
   sum-beyond : (n : ℕ) → k < n → finite (over (adding abs) zero64 xs n) ≡ false
@@ -43,7 +32,7 @@ module _ (xs : List Float) (k : ℕ) (h : finite (getD xs k nan) ≡ false) wher
       elim (decLe n k) [
         | yes m ↦
             let e : k ≡ n = omega arith in
-            add-beyond binary64 (over (adding abs) zero64 xs n) (abs (getD xs n nan)) (size-beyond (getD xs n nan) (subst (λ (i : ℕ). finite (getD xs i nan) ≡ false) e h))
+            add-beyond binary64 (over (adding abs) zero64 xs n) (abs (getD xs n nan)) (abs-beyond (getD xs n nan) (subst (λ (i : ℕ). finite (getD xs i nan) ≡ false) e h))
         | no m ↦ beyond-add binary64 (over (adding abs) zero64 xs n) (abs (getD xs n nan)) (sum-beyond n (omega arith))
       ]
 

@@ -12,9 +12,10 @@ use Rattle.answers.specs.Numbers.{ifDone}
 use Rattle.laws.proofs.NotNumber.{nan-add, nan-sub, mul-nan, nan-mul}
 use Rattle.laws.proofs.NotFinite.{beyond-add, beyond-mul, mul-beyond, beyond-div}
 use Rattle.number.specs.Number.{narrow}
+use Rattle.number.proofs.NotFinite.{narrow-beyond}
 use Rattle.spectrum.specs.declared.parts.Sums.{Sums}
 use Rattle.spectrum.specs.Bin.{sumsOf}
-use Rattle.spectrum.proofs.Unusual.{narrow-beyond, beyond-sub, nan-real, nan-imag, real-beyond, imag-beyond}
+use Rattle.spectrum.proofs.Unusual.{beyond-sub, nan-real, nan-imag, real-beyond, imag-beyond}
 use Rattle.fundamental.specs.declared.FundamentalPower.{FundamentalPower}
 use Rattle.fundamental.specs.Fundamental.{inPhase, across, scaledOf, fundamentalWith, fundamentalFigures, fundamentalOf, fundamentalOutcome, fundamentalAnswer}
 use Rattle.fundamental.proofs.Ends.{answered, answer-of}

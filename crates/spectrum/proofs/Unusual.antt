@@ -11,18 +11,11 @@ use lib.Ieee.{Float, nan, inf, fin, binary64, add, sub, mul, neg}
 use lib.Ieee.Scale.{finite}
 use Rattle.laws.proofs.NotNumber.{add-nan, nan-add, sub-nan, nan-sub, nan-mul}
 use Rattle.laws.proofs.NotFinite.{add-beyond, beyond-add, beyond-mul}
-use Rattle.number.specs.Number.{narrow}
 use Rattle.quarter.specs.Turn.{sineOf, cosineOf}
 use Rattle.spectrum.specs.Bin.{angleOf, turned, sumsTo, sumsOf}
 
 never : (i : ℕ) → i < 0 → ⊥
 never i l = omega arith
-
-pub narrow-beyond : (x : Float) → finite x ≡ false → finite (narrow x) ≡ false
-unfolding narrow
-narrow-beyond nan h = refl
-narrow-beyond (inf s) h = refl
-narrow-beyond (fin s m e) h = absurd (subst T h tt)
 
 neg-beyond : (x : Float) → finite x ≡ false → finite (neg x) ≡ false
 unfolding neg
