@@ -1,3 +1,5 @@
--- What the contracts cite, and examples of it. Assumes nothing.
+-- What the contracts cite, what is claimed of it, and examples of it. Assumes nothing.
 pub mod Thd
+pub mod Editions
+pub mod Claims
 pub mod Shown
