@@ -32,7 +32,7 @@ use Rattle.figures.proofs.Counted.{counts-kept}
 use Rattle.signal.specs.declared.State.{State}
 use Rattle.signal.specs.declared.Metrics.{Metrics}
 use Rattle.signal.specs.State.{fresh, withPhase, withDuty, withMeasured, silenced, asPort}
-use Rattle.signal.specs.Calls.{SignalLeft, answer, made, remade, newOf, newPortOf}
+use Rattle.signal.specs.Calls.{SignalLeft, answer, made, remade, newOf, ported}
 use Rattle.signal.specs.Sequence.{Setting, phase, duty, Later, setting, reset, next, Taken}
 use Rattle.signal.specs.Counted.{CountsOwn, CountsNew, CountsPort, CountsNext, CountsStay, CountsFollow}
 use Rattle.signal.proofs.Sequence.{stateOf, judged-taken, withSetting, next-set, next-reset, next-taken, made-figures}
@@ -74,14 +74,14 @@ made-after top s (x ∷ xs) h earlier = made-own top s (x ∷ xs) h (zero-lt-suc
 
 pub counts-new : CountsNew
 unfolding remade fresh notNumbersOf infiniteOf howMany over
-counts-new top wave amplitude frequency xs h =
-    subst CountsOwn (sym (judged-taken _ xs _ h)) (made-after top (fresh wave amplitude frequency) xs h (λ z. (refl, refl)))
+counts-new top wave amplitude frequency edition xs h =
+    subst CountsOwn (sym (judged-taken _ xs _ h)) (made-after top (fresh wave amplitude frequency edition) xs h (λ z. (refl, refl)))
 
 pub counts-port : CountsPort
-unfolding newPortOf ifDone asPort
-counts-port top voltage current frequency xs h =
-    let l = newOf top DC voltage zero32 xs in
-    go (eqb (numberOf (l .answer .outcome)) 0) l (counts-new top DC voltage zero32 xs h)
+unfolding ported ifDone asPort
+counts-port top voltage current frequency edition xs h =
+    let l = newOf top DC voltage zero32 edition xs in
+    go (eqb (numberOf (l .answer .outcome)) 0) l (counts-new top DC voltage zero32 edition xs h)
   where
     go : (b : Bool) (l : SignalLeft) → CountsOwn l → CountsOwn (cond b (left (answer (l .answer .outcome) (asPort (l .answer .state) voltage current frequency)) (l .places)) l)
     go true l c = c

@@ -5,19 +5,17 @@ use mathlib.Core.List.{List}
 use Prim.Native.Nat.{ℕ}
 use lib.ListN.{length}
 use lib.Ieee.{Float}
-use Rattle.laws.specs.Literals.{zero32}
 use Rattle.answers.specs.declared.Outcome.{Outcome}
 use Rattle.answers.specs.declared.Outcome.the-variants.{Done, OutputShort, TooLong, OffGrid}
 use Rattle.answers.specs.Left.{left}
 use Rattle.answers.specs.Numbers.{numberOf, ifDone, refuse}
 use Rattle.answers.proofs.Ended.{if-refused, if-done}
-use Rattle.generator.specs.declared.Wave.the-variants.{DC}
 use Rattle.port.specs.declared.Reading.{Reading}
 use Rattle.spectrum.specs.Spectrum.{outcomeOf}
 use Rattle.signal.specs.declared.State.{State}
 use Rattle.signal.specs.declared.Answer.{Answer}
 use Rattle.signal.specs.State.{asPort}
-use Rattle.signal.specs.Calls.{SignalLeft, answer, unlessRefused, newOf, newPortOf}
+use Rattle.signal.specs.Calls.{SignalLeft, answer, unlessRefused, ported}
 
 -- the refusals of samples that are generated and measured, from what is found of their number
 abbrev pub chain : Bool → Bool → Outcome
@@ -36,16 +34,16 @@ module _ (s : State) (xs : List Float) (done : SignalLeft) (o : Outcome) (d : �
 
 -- ---- a port: `new` left a and ys
 
-module _ (top : ℕ) (v c : Float) (f : Reading) (xs ys : List Float) (a : Answer) (d : ℕ) (number : d ≡ numberOf (a .outcome)) (h : left a ys ≡ newOf top DC v zero32 xs) where
+module _ (v c : Float) (f : Reading) (l : SignalLeft) (ys : List Float) (a : Answer) (d : ℕ) (number : d ≡ numberOf (a .outcome)) (h : left a ys ≡ l) where
   abbrev done : SignalLeft
   done = left (answer (a .outcome) (asPort (a .state) v c f)) ys
 
-  over-new : newPortOf top v c f xs ≡ ifDone (a .outcome) done (left a ys)
-  unfolding newPortOf
+  over-new : ported v c f l ≡ ifDone (a .outcome) done (left a ys)
+  unfolding ported
   over-new = rw (← h)
 
-  pub port-refused : (d ≡ 0 → ⊥) → left a ys ≡ newPortOf top v c f xs
+  pub port-refused : (d ≡ 0 → ⊥) → left a ys ≡ ported v c f l
   port-refused n = sym (over-new ∙ if-refused (a .outcome) done (left a ys) d number n)
 
-  pub port-done : (r : State) → d ≡ 0 → r ≡ asPort (a .state) v c f → left (answer (a .outcome) r) ys ≡ newPortOf top v c f xs
+  pub port-done : (r : State) → d ≡ 0 → r ≡ asPort (a .state) v c f → left (answer (a .outcome) r) ys ≡ ported v c f l
   port-done r z p = rw p (sym (over-new ∙ if-done (a .outcome) done (left a ys) d number z))

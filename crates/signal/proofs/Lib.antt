@@ -2,6 +2,8 @@
 mod Whole
 pub mod Ends
 pub mod Sequence
+pub mod InEdition
+pub mod SameEditions
 pub mod Counted
 pub mod SequencePort
 pub mod Shown

@@ -60,9 +60,12 @@ next-shows top l (setting c) h = rw (next-set top l c h) (made-shows top (withSe
 next-shows top l reset h = rw (next-reset top l h) (silenced-shows (stateOf l))
 
 -- after `new`
-pub readings-new : (top : ℕ) (wave : Wave) (amplitude frequency : Float) (xs : List Float) → Taken xs → ShowsOwn (stateOf (newOf top wave amplitude frequency xs))
+pub readings-new : (top : ℕ) (wave : Wave) (amplitude frequency : Float) (edition : ℕ) (xs : List Float) → Taken xs
+    → ShowsOwn (stateOf (newOf top wave amplitude frequency edition xs))
 unfolding remade
-readings-new top wave amplitude frequency xs h = rw (judged-taken _ xs (made top (fresh wave amplitude frequency) xs) h) (made-shows top (fresh wave amplitude frequency) xs)
+readings-new top wave amplitude frequency edition xs h =
+    let start = fresh wave amplitude frequency edition in
+    rw (judged-taken _ xs (made top start xs) h) (made-shows top start xs)
 
 -- after one later call or more, whichever they are, and whatever the readings were at the start (a power port's are those that were given)
 pub readings-follow : (top : ℕ) (l : SignalLeft) (c : Later) (cs : List Later) → Taken (l .places) → ShowsOwn (stateOf (run top l (c ∷ cs)))

@@ -18,12 +18,13 @@ use Rattle.figures.specs.Figures.{answerOf}
 use Rattle.distortion.specs.Thd.{thdOf}
 use Rattle.signal.specs.declared.State.{State}
 use Rattle.signal.specs.State.{voltageOf, levelled, withMeasured, asPort}
-use Rattle.signal.specs.Calls.{SignalLeft, answer, made, remade}
+use Rattle.signal.specs.Calls.{SignalLeft, answer, made}
+use Rattle.signal.specs.Editions.{remadeBy}
 
 pub measured-whole : (top : ℕ) (s : State) (xs : List Float) (a : TimeAnswer) (thd v : Float) (p : Port)
     → a ≡ answerOf (s .shape .wave) (s .shape .amplitude) (s .shape .frequency) (s .metrics .figures) xs → thd ≡ thdOf top (s .shape .frequency) (s .metrics .thd) xs
     → v ≡ voltageOf (s .shape .wave) (a .figures) → p ≡ levelled (s .port) v (a .figures .«crest_factor») thd
-    → _≡_ {A = State} (record { shape = s .shape; port = p; metrics = record { figures = a .figures; thd = thd } }) (withMeasured top s xs)
+    → _≡_ {A = State} (record { shape = s .shape; port = p; metrics = record { figures = a .figures; thd = thd; edition = s .metrics .edition } }) (withMeasured top s xs)
 unfolding withMeasured
 measured-whole top s xs a thd v p ea et ev ep = rw (ep, ev, et, ea)
 
@@ -31,8 +32,8 @@ pub made-whole : (top : ℕ) (s r : State) (xs ys : List Float) (o : Outcome) �
 unfolding made
 made-whole top s r xs ys o g e = let p : ys ≡ generated (s .shape) xs .places = ap (λ (w : Left Outcome (List Float)). w .places) g in rw (e, p)
 
-pub remade-same : (top : ℕ) (e e′ n n′ : State) (xs : List Float) (l : SignalLeft) → e ≡ e′ → n ≡ n′ → l ≡ remade top e n xs → l ≡ remade top e′ n′ xs
-remade-same top e e′ n n′ xs l p q h = rw (← p, ← q) h
+pub remade-same : (edition : ℕ) (e e′ n n′ : State) (xs : List Float) (l : SignalLeft) → e ≡ e′ → n ≡ n′ → l ≡ remadeBy edition e n xs → l ≡ remadeBy edition e′ n′ xs
+remade-same edition e e′ n n′ xs l p q h = rw (← p, ← q) h
 
 pub port-whole : (s : State) (voltage current : Float) (frequency : Reading) (apparent : Float) (p1 p2 p3 p4 p5 p6 p7 p8 : Port)
     → apparent ≡ abs (mul binary32 voltage current)

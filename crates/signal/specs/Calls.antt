@@ -40,15 +40,11 @@ made top s xs = let ys = generated (s .shape) xs .places in left (answer Done (w
 unfoldable pub remade : ℕ → State → State → List Float → SignalLeft
 remade top earlier next xs = unlessRefused earlier xs (made top next xs)
 
--- ---- the calls, each over the highest order of THD
+-- ---- the calls, each over the highest order of THD; by the edition's number they stand in Editions.antt
 
 -- 01, item 10, `new`: a fresh signal of the wave, made; where refused, the zero state
-abbrev pub newOf : ℕ → Wave → Float → Float → List Float → SignalLeft
-newOf top wave amplitude frequency xs = remade top zeroState (fresh wave amplitude frequency) xs
-
--- 01, "THD in `Signal` uses orders up to 16"
-abbrev pub highest : ℕ
-highest = 16
+abbrev pub newOf : ℕ → Wave → Float → Float → ℕ → List Float → SignalLeft
+newOf top wave amplitude frequency edition xs = remade top zeroState (fresh wave amplitude frequency edition) xs
 
 -- 01, item 10, `set_phase`: made again with another phase
 abbrev pub phaseSet : ℕ → State → Float → List Float → SignalLeft
@@ -59,11 +55,13 @@ abbrev pub dutySet : ℕ → State → Float → List Float → SignalLeft
 dutySet top s duty xs = remade top s (withDuty s duty) xs
 
 -- 01, item 10, `new_power_port`: the Rust's `new` of a DC wave of that amplitude and frequency 0, and then its readings set; what `new` refused stays as it is
-unfoldable pub newPortOf : ℕ → Float → Float → Reading → List Float → SignalLeft
-newPortOf top voltage current frequency xs =
-    let l = newOf top DC voltage zero32 xs in
+unfoldable pub ported : Float → Float → Reading → SignalLeft → SignalLeft
+ported voltage current frequency l =
     let o = l .answer .outcome in
     ifDone o (left (answer o (asPort (l .answer .state) voltage current frequency)) (l .places)) l
+
+abbrev pub newPortOf : ℕ → Float → Float → Reading → ℕ → List Float → SignalLeft
+newPortOf top voltage current frequency edition xs = ported voltage current frequency (newOf top DC voltage zero32 edition xs)
 
 -- 01, item 10, `reset_waveform`: every sample 0, and the state of silence
 unfoldable pub resetOf : State → List Float → SignalLeft

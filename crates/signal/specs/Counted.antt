@@ -1,4 +1,5 @@
--- What the state's two counts say of the caller's samples, call by call (02, h). Definitions only; each claim is proved in proofs/Counted.antt.
+-- What the state's two counts say of the caller's samples, call by call (02, h), over any highest order, and so by edition where it is known (`KnownRun`,
+-- InEdition.antt). Definitions only; each claim is proved in proofs/Counted.antt.
 use Prim.Native.Nat.{ℕ, _<_}
 use mathlib.Core.Path.{_≡_}
 use mathlib.Core.List.{List}
@@ -22,10 +23,12 @@ CountsOwn l = HasCounts (l .places) (recordAfter l)
 
 -- so it is with a signal that was made, of no samples too (`counts-new`, `counts-port`)
 abbrev pub CountsNew : Type 0
-CountsNew = (top : ℕ) (wave : Wave) (amplitude frequency : Float) (xs : List Float) → Taken xs → CountsOwn (newOf top wave amplitude frequency xs)
+CountsNew =
+    (top : ℕ) (wave : Wave) (amplitude frequency : Float) (edition : ℕ) (xs : List Float) → Taken xs → CountsOwn (newOf top wave amplitude frequency edition xs)
 
 abbrev pub CountsPort : Type 0
-CountsPort = (top : ℕ) (voltage current : Float) (frequency : Reading) (xs : List Float) → Taken xs → CountsOwn (newPortOf top voltage current frequency xs)
+CountsPort =
+    (top : ℕ) (voltage current : Float) (frequency : Reading) (edition : ℕ) (xs : List Float) → Taken xs → CountsOwn (newPortOf top voltage current frequency edition xs)
 
 -- and after each later call on at least one sample, whatever state and samples were handed to it (`counts-next`)
 abbrev pub CountsNext : Type 0

@@ -2,4 +2,6 @@
 pub mod State
 pub mod Calls
 pub mod Sequence
+pub mod Editions
+pub mod InEdition
 pub mod Counted

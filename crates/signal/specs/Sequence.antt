@@ -1,5 +1,6 @@
 -- Later calls, one after another, each on what the call before left behind. 01, 'How much a contract has to say', what must not pass: "a `Signal` right at
--- `new` that only pretends at later settings (demand 2, call by call)". Definitions only.
+-- `new` that only pretends at later settings (demand 2, call by call)". The calls are those over any highest order; by the edition's number they stand in
+-- Editions.antt, and are these where it is known (`KnownRun`, InEdition.antt). Definitions only.
 use Prim.Native.Nat.{ℕ}
 use mathlib.Core.Path.{_≡_}
 use mathlib.Core.Logic.{_⊎_}
@@ -18,7 +19,7 @@ use Rattle.port.specs.Fields.{cells, cellAt, at-voltage, at-voltage-thd, at-vol
 use Rattle.figures.specs.declared.TimeFigures.{TimeFigures}
 use Rattle.figures.specs.Figures.{zeroFigures}
 use Rattle.signal.specs.declared.State.{State}
-use Rattle.signal.specs.State.{clamped, voltageOf}
+use Rattle.signal.specs.State.{clamped, voltageOf, metricsOf}
 use Rattle.signal.specs.Calls.{SignalLeft, phaseSet, dutySet, resetOf}
 
 -- `set_phase` and `set_duty_cycle`
@@ -69,7 +70,7 @@ pub record Shows (shape : Shape) (figures : TimeFigures) (thd : Float) (p : Port
 
 -- those that the state itself has (`readings-new`, `readings-follow`)
 abbrev pub ShowsOwn : State → Type 0
-ShowsOwn s = Shows (s .shape) (s .metrics .figures) (s .metrics .thd) (s .port)
+ShowsOwn s = Shows (s .shape) (metricsOf s .figures) (metricsOf s .thd) (s .port)
 
 -- the other 23 fields of the port are as they were (`others-stay`)
 abbrev pub OthersStay : Port → Port → Type 0
@@ -79,8 +80,8 @@ OthersStay before after =
 -- what a reset leaves in the state: this shape, and zero in all that is measured and in the readings that follow it (`reset-state`)
 pub record Quiet (shape : Shape) (s : State) : Type 0 where
   pub kept : s .shape ≡ shape
-  pub figures : s .metrics .figures ≡ zeroFigures
-  pub thd : s .metrics .thd ≡ zero32
+  pub figures : metricsOf s .figures ≡ zeroFigures
+  pub thd : metricsOf s .thd ≡ zero32
   pub level : s .port .voltage ≡ zero32
   pub crest : s .port .«voltage_crest_factor» .reading ≡ Number zero32
   pub distortion : s .port .«voltage_thd» .reading ≡ Number zero32

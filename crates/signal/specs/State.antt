@@ -22,11 +22,15 @@ use Rattle.distortion.specs.Thd.{thdOf}
 use Rattle.signal.specs.declared.State.{State}
 use Rattle.signal.specs.declared.Metrics.{Metrics}
 
--- nothing is measured yet, or no more
-abbrev pub zeroMetrics : Metrics
-zeroMetrics = record { figures = zeroFigures; thd = zero32 }
+-- nothing is measured yet, or no more; 02, e: "each record carries its number", that of the edition
+abbrev pub unmeasured : ℕ → Metrics
+unmeasured edition = record { figures = zeroFigures; thd = zero32; edition = edition }
 
--- 01, "What a refusal returns is zero throughout (a reading absent, a flag false, the wave `DC`)"
+-- 01, "What a refusal returns is zero throughout", the edition too
+abbrev pub zeroMetrics : Metrics
+zeroMetrics = unmeasured 0
+
+-- 01, "What a refusal returns is zero throughout (a reading absent, a flag false, the wave `DC` ..)"
 abbrev pub zeroState : State
 zeroState = record {
   shape = shapeOf DC zero32 zero32 zero32 zero32;
@@ -48,12 +52,12 @@ abbrev pub frequencyReading : Wave → Float → Reading
 frequencyReading wave frequency = ofKind wave Absent (Number frequency)
 
 -- phase 0, duty cycle a half, nothing measured; a port with its defaults and that frequency. The Rust puts the amplitude into the voltage here: `withMeasured`
--- replaces it before anyone reads it
-unfoldable pub fresh : Wave → Float → Float → State
-fresh wave amplitude frequency = record {
+-- replaces it before anyone reads it. 02, e: "the caller names the edition where the signal is made"
+unfoldable pub fresh : Wave → Float → Float → ℕ → State
+fresh wave amplitude frequency edition = record {
   shape = shapeOf wave amplitude zero32 frequency half;
   port = put cleared at-frequency (reading (frequencyReading wave frequency));
-  metrics = zeroMetrics;
+  metrics = unmeasured edition;
 }
 
 -- ---- settings of the shape
@@ -94,11 +98,11 @@ withMeasured top s xs =
     let figures = answerOf (s .shape .wave) (s .shape .amplitude) (s .shape .frequency) (s .metrics .figures) xs .figures in
     let thd = thdOf top (s .shape .frequency) (s .metrics .thd) xs in
     let port = levelled (s .port) (voltageOf (s .shape .wave) figures) (figures .«crest_factor») thd in
-    record { shape = s .shape; port = port; metrics = record { figures = figures; thd = thd } }
+    record { shape = s .shape; port = port; metrics = record { figures = figures; thd = thd; edition = s .metrics .edition } }
 
--- the Rust's `reset_waveform`: all that is measured is zero
+-- the Rust's `reset_waveform`: all that is measured is zero; 02, e: "the signal keeps [its edition] through every reset"
 unfoldable pub silenced : State → State
-silenced s = record { shape = s .shape; port = levelled (s .port) zero32 zero32 zero32; metrics = zeroMetrics }
+silenced s = record { shape = s .shape; port = levelled (s .port) zero32 zero32 zero32; metrics = unmeasured (s .metrics .edition) }
 
 -- ---- 01, item 10, `new_power_port`: the readings that it sets on a signal that `new` made, in the Rust's order
 
@@ -130,6 +134,6 @@ asPort s voltage current frequency = record {
   metrics = s .metrics;
 }
 
--- 01, "`get_metrics` gives the 19 figures and THD"; 02, h: the counts are in "the record that all readers share"
+-- 01, "`get_metrics` gives the 19 figures and THD"; 02, h: the counts are in "the record that all readers share"; e: "each record carries its number"
 abbrev pub metricsOf : State → Metrics
 metricsOf s = s .metrics

@@ -1,14 +1,15 @@
 // What the calls are made of.
 ghost use mathlib.Core.Path.{_≡_};
 ghost use mathlib.Core.Bool.{true};
-ghost use Prim.Native.Nat.{ℕ};
+ghost use Prim.Native.Nat.{ℕ, _≤_};
 ghost use lib.ListN.{length};
 ghost use Rattle.answers.specs.Left.{left};
 ghost use Rattle.laws.specs.Filled.{filled};
 ghost use Rattle.laws.specs.Literals.{zero32};
 ghost use Rattle.spectrum.specs.Grid.{onGrid};
 ghost use Rattle.signal.specs.State as S;
-ghost use Rattle.signal.specs.Calls.{answer, highest, made, remade};
+ghost use Rattle.signal.specs.Calls.{answer, made, remade};
+ghost use Rattle.signal.specs.Editions.{remadeBy};
 use crate::Answer;
 use crate::Metrics;
 use crate::State;
@@ -20,13 +21,16 @@ use generator::Wave;
 use port::Port;
 use port::Reading;
 
-// The highest order of THD.
-const HIGHEST: usize = 16;
-
-const ZERO_METRICS: Metrics = Metrics {
-    figures: ZERO_FIGURES,
-    thd: 0.0,
-};
+// Nothing is measured, in this edition.
+fn unmeasured(edition: u8) -> Metrics
+    ensures { λ r. ⌜ r ≡ S.unmeasured edition ⌝ }
+{
+    Metrics {
+        figures: ZERO_FIGURES,
+        thd: 0.0,
+        edition: edition,
+    }
+}
 
 // What a refused `new` answers.
 pub fn zero_state() -> State
@@ -44,7 +48,7 @@ pub fn zero_state() -> State
     State {
         shape: shape,
         port: port,
-        metrics: ZERO_METRICS,
+        metrics: unmeasured(0),
     }
 }
 
@@ -61,8 +65,8 @@ fn frequency_of(wave: Wave, frequency: f32) -> Reading
 }
 
 // The state before anything is generated.
-pub fn fresh(wave: Wave, amplitude: f32, frequency: f32) -> State
-    ensures { λ r. ⌜ r ≡ S.fresh wave amplitude frequency ⌝ }
+pub fn fresh(wave: Wave, amplitude: f32, frequency: f32, edition: u8) -> State
+    ensures { λ r. ⌜ r ≡ S.fresh wave amplitude frequency edition ⌝ }
 {
     let reading = frequency_of(wave, frequency);
     let port = port::cleared_port().set_frequency(reading);
@@ -76,7 +80,7 @@ pub fn fresh(wave: Wave, amplitude: f32, frequency: f32) -> State
     State {
         shape: shape,
         port: port,
-        metrics: ZERO_METRICS,
+        metrics: unmeasured(edition),
     }
 }
 
@@ -134,10 +138,11 @@ fn levelled(port: Port, voltage: f32, crest: f32, thd: f32) -> Port
         .set_voltage_thd(Reading::Number(thd))
 }
 
-// The state with what is measured of the samples.
-fn measure(state: State, samples: &[f32]) -> State
+// The state with what is measured of the samples, THD of orders up to `top`.
+fn measure(top: usize, state: State, samples: &[f32]) -> State
     requires { ⌜ onGrid (length (now samples)) ≡ true ⌝ }
-    ensures { λ r. ⌜ r ≡ S.withMeasured highest state (now (samples .entry)) ⌝ }
+    requires { ⌜ (1 ≤ top) × (top ≤ 65536) ⌝ }
+    ensures { λ r. ⌜ r ≡ S.withMeasured top state (now (samples .entry)) ⌝ }
 {
     let shape = state.shape;
     let wave = shape.wave;
@@ -151,12 +156,13 @@ fn measure(state: State, samples: &[f32]) -> State
         samples,
     );
     let figures = answer.figures;
-    let thd = distortion::parts::thd(samples, shape.frequency, HIGHEST, before.thd);
+    let thd = distortion::parts::thd(samples, shape.frequency, top, before.thd);
     let port = state.port;
     let next = levelled(port, voltage_of(wave, figures), figures.crest_factor, thd);
     let metrics = Metrics {
         figures: figures,
         thd: thd,
+        edition: before.edition,
     };
     State {
         shape: shape,
@@ -166,9 +172,10 @@ fn measure(state: State, samples: &[f32]) -> State
 }
 
 // The samples of the state's shape, and the state with what is measured of them.
-fn make(state: State, samples: &mut [f32]) -> State
+fn make(top: usize, state: State, samples: &mut [f32]) -> State
     requires { ⌜ onGrid (length (now samples)) ≡ true ⌝ }
-    ensures { λ r. ⌜ left (answer Outcome.Done r) (now (samples .exit)) ≡ made highest state (now (samples .entry)) ⌝ }
+    requires { ⌜ (1 ≤ top) × (top ≤ 65536) ⌝ }
+    ensures { λ r. ⌜ left (answer Outcome.Done r) (now (samples .exit)) ≡ made top state (now (samples .entry)) ⌝ }
 {
     let shape = state.shape;
     let wave = shape.wave;
@@ -180,12 +187,13 @@ fn make(state: State, samples: &mut [f32]) -> State
         shape.duty_cycle,
         &mut *samples,
     );
-    measure(state, samples)
+    measure(top, state, samples)
 }
 
 // The next state with its samples, or where the length is refused the earlier one.
-pub fn remake(earlier: State, next: State, samples: &mut [f32]) -> Answer
-    ensures { λ r. ⌜ left r (now (samples .exit)) ≡ remade highest earlier next (now (samples .entry)) ⌝ }
+fn remake(top: usize, earlier: State, next: State, samples: &mut [f32]) -> Answer
+    requires { ⌜ (1 ≤ top) × (top ≤ 65536) ⌝ }
+    ensures { λ r. ⌜ left r (now (samples .exit)) ≡ remade top earlier next (now (samples .entry)) ⌝ }
 {
     let outcome = spectrum::parts::judged(samples.len(), false);
     if answers::number_of(outcome) != 0 {
@@ -196,8 +204,22 @@ pub fn remake(earlier: State, next: State, samples: &mut [f32]) -> Answer
     }
     Answer {
         outcome: Outcome::Done,
-        state: make(next, samples),
+        state: make(top, next, samples),
     }
+}
+
+// The same in this edition; where there is none of that number, the state before.
+pub fn remake_by(edition: u8, before: State, next: State, samples: &mut [f32]) -> Answer
+    ensures { λ r. ⌜ left r (now (samples .exit)) ≡ remadeBy edition before next (now (samples .entry)) ⌝ }
+{
+    let top = distortion::editions::highest_order(edition);
+    if top == 0 {
+        return Answer {
+            outcome: Outcome::UnknownEdition,
+            state: before,
+        };
+    }
+    remake(top, before, next, samples)
 }
 
 // All samples zero.
@@ -222,7 +244,7 @@ pub fn silenced(state: State) -> State
     State {
         shape: shape,
         port: next,
-        metrics: ZERO_METRICS,
+        metrics: unmeasured(state.metrics.edition),
     }
 }
 

@@ -10,14 +10,14 @@ zero-state-requires c κs = search needs
 fresh-requires : tie.Need-fresh-requires
 fresh-requires c κs = search needs
 
-remake-requires : tie.Need-remake-requires
-remake-requires c κs = search needs
+remake-by-requires : tie.Need-remake-by-requires
+remake-by-requires c κs = search needs
 
 same-length : tie.Need-same-length
 same-length c = search needs
 
 returns : tie.Need-returns
-returns c = remade-same _ _ _ _ _ _ _ (c .before .before .before .before .before .zero-state .ensures) (c .before .before .before .before .fresh .ensures) (c .before .before .remake .ensures)
+returns c = remade-same _ _ _ _ _ _ _ (c .before .before .before .before .before .zero-state .ensures) (c .before .before .before .before .fresh .ensures) (c .before .before .remake-by .ensures)
 
 pub new-spec : {M : Type 1} → statement M
 new-spec =
@@ -25,6 +25,6 @@ new-spec =
     (tie.spec
     zero-state-requires
     fresh-requires
-    remake-requires
+    remake-by-requires
     same-length
     returns)

@@ -13,9 +13,12 @@ cleared-port-requires c κs = search needs
 set-frequency-requires : tie.Need-set-frequency-requires
 set-frequency-requires c κs = search needs
 
+unmeasured-requires : tie.Need-unmeasured-requires
+unmeasured-requires c κs = search needs
+
 returns : tie.Need-returns
 unfolding fresh
-returns c = rw (c .set-frequency .ensures, c .before .cleared-port .ensures, c .before .before .frequency-of .ensures)
+returns c = rw (c .unmeasured .ensures, c .before .set-frequency .ensures, c .before .before .cleared-port .ensures, c .before .before .before .frequency-of .ensures)
 
 pub fresh-spec : {M : Type 1} → statement M
 fresh-spec =
@@ -24,4 +27,5 @@ fresh-spec =
     frequency-of-requires
     cleared-port-requires
     set-frequency-requires
+    unmeasured-requires
     returns)

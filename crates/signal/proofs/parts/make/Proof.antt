@@ -14,7 +14,9 @@ same-length : tie.Need-same-length
 same-length c = search needs
 
 measure-requires : tie.Need-measure-requires
-measure-requires c κs = ap onGrid (c .before .before .before .generate-samples .kept .1 .1 .1 .1 .1 .0) ∙ c .before .before .before .before .before .before .before .pre
+measure-requires c κs =
+    let start = c .before .before .before .before .before .before .before in
+    (ap onGrid (c .before .before .before .generate-samples .kept .1 .1 .1 .1 .1 .0) ∙ start .pre .0, start .pre .1)
 
 returns : tie.Need-returns
 returns c =

@@ -21,7 +21,9 @@ unfolding remade
 returns c = refused _ _ _ _ _ (c .before .before .judged .ensures) (c .before .number-of .ensures) (c .if1 .taken)
 
 make-requires : tie.Need-make-requires
-make-requires c κs = none-holds _ _ _ _ (c .before .before .before .judged .ensures) (c .before .before .number-of .ensures) (c .before .if1 .left) .0
+make-requires c κs =
+    let at-if = c .before in
+    (none-holds _ _ _ _ (at-if .before .before .judged .ensures) (at-if .before .number-of .ensures) (at-if .if1 .left) .0, at-if .before .before .before .before .pre)
 
 returns-2 : tie.Need-returns-2
 unfolding remade
