@@ -15,3 +15,4 @@ pub mod Read
 pub mod ReadAt
 pub mod Spent
 pub mod Sequence
+pub mod Kept

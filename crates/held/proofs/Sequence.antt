@@ -3,33 +3,35 @@
 -- Assumes nothing.
 use mathlib.Core.Path.{_≡_, _∙_, ap}
 use mathlib.Core.List.{List}
+use Prim.Native.Nat.{ℕ}
 use lib.Ieee.{Float}
 use denote.Ref.{RefT, now}
 use Rattle.generator.specs.declared.Wave.{Wave}
-use Rattle.signal.specs.Calls.{SignalLeft, highest, newOf, phaseSet, dutySet, resetOf}
+use Rattle.signal.specs.Calls.{SignalLeft, resetOf}
+use Rattle.signal.specs.Editions.{newBy, phaseBy, dutyBy}
 use Rattle.held.specs.declared.Signal.{Signal}
 use Rattle.held.specs.Held.{beside, after}
 
-module _ (wave : Wave) (amplitude frequency duty phase : Float) where
+module _ (wave : Wave) (amplitude frequency : Float) (edition : ℕ) (duty phase : Float) where
   -- by value: each call takes what the one before left
   abbrev made : List Float → SignalLeft
-  made xs = newOf highest wave amplitude frequency xs
+  made xs = newBy wave amplitude frequency edition xs
 
   abbrev dutied : List Float → SignalLeft
-  dutied xs = dutySet highest (made xs .answer .state) duty (made xs .places)
+  dutied xs = dutyBy (made xs .answer .state) duty (made xs .places)
 
   abbrev phased : List Float → SignalLeft
-  phased xs = phaseSet highest (dutied xs .answer .state) phase (dutied xs .places)
+  phased xs = phaseBy (dutied xs .answer .state) phase (dutied xs .places)
 
   abbrev emptied : List Float → SignalLeft
   emptied xs = resetOf (phased xs .answer .state) (phased xs .places)
 
   -- what each later call's contract says of the signal
   abbrev with-duty : Signal → Signal
-  with-duty s = after s (dutySet highest (s .answer .state) duty (now (s .samples)))
+  with-duty s = after s (dutyBy (s .answer .state) duty (now (s .samples)))
 
   abbrev with-phase : Signal → Signal
-  with-phase s = after s (phaseSet highest (s .answer .state) phase (now (s .samples)))
+  with-phase s = after s (phaseBy (s .answer .state) phase (now (s .samples)))
 
   abbrev reset : Signal → Signal
   reset s = after s (resetOf (s .answer .state) (now (s .samples)))

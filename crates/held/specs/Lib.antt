@@ -1,2 +1,3 @@
--- What the contracts cite. Assumes nothing.
+-- What the contracts cite, and what is claimed of it. Assumes nothing.
 pub mod Held
+pub mod Kept

@@ -4,7 +4,8 @@ mod parts;
 ghost use mathlib.Core.Path.{_≡_};
 ghost use Rattle.answers.specs.Left.{left};
 ghost use Rattle.signal.specs.State.{metricsOf};
-ghost use Rattle.signal.specs.Calls.{highest, newOf, newPortOf, phaseSet, dutySet, resetOf};
+ghost use Rattle.signal.specs.Calls.{resetOf};
+ghost use Rattle.signal.specs.Editions.{newBy, newPortBy, phaseBy, dutyBy};
 ghost use Rattle.port.specs.Fields.{number, reading, places, flag};
 ghost use Rattle.port.specs.Fields as Fields;
 ghost use Rattle.port.specs.Readings.{placeOf, withPlace, instantaneousPower, cleared};
@@ -23,10 +24,16 @@ pub struct Signal<'a> {
 
 impl<'a> Signal<'a> {
     // A signal of a wave: the samples are generated and measured.
-    pub fn new(wave: Wave, amplitude: f32, frequency: f32, samples: &'a mut [f32]) -> Signal<'a>
-        ensures { λ r. ⌜ r ≡ beside (samples .entry) (newOf highest wave amplitude frequency (now (samples .entry))) ⌝ }
+    pub fn new(
+        wave: Wave,
+        amplitude: f32,
+        frequency: f32,
+        edition: u8,
+        samples: &'a mut [f32],
+    ) -> Signal<'a>
+        ensures { λ r. ⌜ r ≡ beside (samples .entry) (newBy wave amplitude frequency edition (now (samples .entry))) ⌝ }
     {
-        let answer = signal::new(wave, amplitude, frequency, &mut *samples);
+        let answer = signal::new(wave, amplitude, frequency, edition, &mut *samples);
         Signal {
             samples: samples,
             answer: answer,
@@ -38,11 +45,12 @@ impl<'a> Signal<'a> {
         voltage: f32,
         current: f32,
         frequency: Reading,
+        edition: u8,
         samples: &'a mut [f32],
     ) -> Signal<'a>
-        ensures { λ r. ⌜ r ≡ beside (samples .entry) (newPortOf highest voltage current frequency (now (samples .entry))) ⌝ }
+        ensures { λ r. ⌜ r ≡ beside (samples .entry) (newPortBy voltage current frequency edition (now (samples .entry))) ⌝ }
     {
-        let answer = signal::new_power_port(voltage, current, frequency, &mut *samples);
+        let answer = signal::new_power_port(voltage, current, frequency, edition, &mut *samples);
         Signal {
             samples: samples,
             answer: answer,
@@ -51,7 +59,7 @@ impl<'a> Signal<'a> {
 
     // Another phase, in degrees: the samples are generated and measured again.
     pub fn set_phase(&mut self, phase: f32)
-        ensures { λ _. ⌜ now (self .exit) ≡ after (now (self .entry)) (phaseSet highest (now (self .entry) .answer .state) phase (now (now (self .entry) .samples))) ⌝ }
+        ensures { λ _. ⌜ now (self .exit) ≡ after (now (self .entry)) (phaseBy (now (self .entry) .answer .state) phase (now (now (self .entry) .samples))) ⌝ }
     {
         let state = self.answer.state;
         let next = signal::set_phase(state, phase, &mut *self.samples);
@@ -60,7 +68,7 @@ impl<'a> Signal<'a> {
 
     // Another duty cycle, held between 0 and 1: the samples are generated and measured again.
     pub fn set_duty_cycle(&mut self, duty_cycle: f32)
-        ensures { λ _. ⌜ now (self .exit) ≡ after (now (self .entry)) (dutySet highest (now (self .entry) .answer .state) «duty_cycle» (now (now (self .entry) .samples))) ⌝ }
+        ensures { λ _. ⌜ now (self .exit) ≡ after (now (self .entry)) (dutyBy (now (self .entry) .answer .state) «duty_cycle» (now (now (self .entry) .samples))) ⌝ }
     {
         let state = self.answer.state;
         let next = signal::set_duty_cycle(state, duty_cycle, &mut *self.samples);
@@ -76,7 +84,7 @@ impl<'a> Signal<'a> {
         self.answer = next;
     }
 
-    // The time figures with their counts, and THD.
+    // The time figures with their counts, THD, and the number of its edition.
     pub fn get_metrics(&mut self) -> Metrics
         ensures { λ r. ⌜ left r (now (self .exit)) ≡ left (metricsOf (now (self .entry) .answer .state)) (now (self .entry)) ⌝ }
     {

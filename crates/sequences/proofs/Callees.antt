@@ -1,5 +1,5 @@
 -- The contracts of crate `held` as a caller cites them, each for any function of its shape.
---     Making, making-of        a function that makes a signal of three arguments and the samples, and of what it ensures the clause alone
+--     Making, making-of        a function that makes a signal of four arguments and the samples, and of what it ensures the clause alone
 --     Setting, Resetting       one that is lent the signal, with one argument or none, and leaves another in its place
 --     Reading                  one that is lent the signal, and answers a part of it
 --     answer                   the type of an answer, as `ByValue.antt` has the others
@@ -44,28 +44,32 @@ answer-laws = record {
   makes = λ 𝓤 H A W. LL.makes N.the-type N′.the-plain 𝓤 H A;
 }
 
-module _ (B₁ B₂ B₃ : ByValue) where
+module _ (B₁ B₂ B₃ B₄ : ByValue) where
   abbrev pub makingEnded : Ended
   makingEnded = record {
     signature = record {
       lifetimes = 1;
       outlives = [];
-      params = plain (λ κs. rowOf B₁) ∷ plain (λ κs. rowOf B₂) ∷ plain (λ κs. rowOf B₃) ∷ SliceRefMutOf (0 ∷ []) tt (plain (λ κs. f32)) (λ κs. tt) ∷ [];
+      params = plain (λ κs. rowOf B₁) ∷ plain (λ κs. rowOf B₂) ∷ plain (λ κs. rowOf B₃) ∷ plain (λ κs. rowOf B₄) ∷ SliceRefMutOf (0 ∷ []) tt (plain (λ κs. f32)) (λ κs. tt) ∷ [];
       result = plain (λ κs. T.the-row (namedLft 1 0 tt κs));
     };
-    kept = (yes, (yes, (yes, (no, tt))));
+    kept = (yes, (yes, (yes, (yes, (no, tt)))));
   }
 
-  module _ (gives : B₁ .like .Denot → B₂ .like .Denot → B₃ .like .Denot → List Float → SignalLeft) {M : Type 1} (𝓤 : URA M) (H : Heap 𝓤) (A : Atoms 𝓤) where
+  module _ (gives : B₁ .like .Denot → B₂ .like .Denot → B₃ .like .Denot → B₄ .like .Denot → List Float → SignalLeft) {M : Type 1} (𝓤 : URA M) (H : Heap 𝓤) (A : Atoms 𝓤) where
     abbrev pub makingClauses : Clauses 𝓤 makingEnded
-    makingClauses κs a = record { ghost = Unit {0}; requires = λ g. emp 𝓤; ensures = λ g r end. fact 𝓤 (r ≡ beside (a .1 .1 .1 .0) (gives (a .0) (a .1 .0) (a .1 .1 .0) (now (a .1 .1 .1 .0)))) }
+    makingClauses κs a = record {
+      ghost = Unit {0};
+      requires = λ g. emp 𝓤;
+      ensures = λ g r end. fact 𝓤 (r ≡ beside (a .1 .1 .1 .1 .0) (gives (a .0) (a .1 .0) (a .1 .1 .0) (a .1 .1 .1 .0) (now (a .1 .1 .1 .1 .0))));
+    }
 
     abbrev pub Making : Contract 𝓤
     Making = tripleOf 𝓤 H A (makingEnded .signature) (closing 𝓤 H A makingEnded makingClauses)
 
-    pub making-of : (κ : Lft) (u : B₁ .like .Denot) (v : B₂ .like .Denot) (z : B₃ .like .Denot) (x : RefT (List Float)) (r : Signal)
-        → ent 𝓤 (ensured 𝓤 H A makingEnded makingClauses (κ, tt) (u, (v, (z, (x, tt)))) tt r) (fact 𝓤 (r ≡ beside x (gives u v z (now x))))
-    making-of κ u v z x r = exE 𝓤 _ (λ ws. snd∗ 𝓤 (sem 𝓤 H A (lasts makingEnded (κ, tt) (u, (v, (z, (x, tt)))) ws)) (fact 𝓤 (r ≡ beside x (gives u v z (now x)))))
+    pub making-of : (κ : Lft) (u : B₁ .like .Denot) (v : B₂ .like .Denot) (z : B₃ .like .Denot) (t : B₄ .like .Denot) (x : RefT (List Float)) (r : Signal)
+        → ent 𝓤 (ensured 𝓤 H A makingEnded makingClauses (κ, tt) (u, (v, (z, (t, (x, tt))))) tt r) (fact 𝓤 (r ≡ beside x (gives u v z t (now x))))
+    making-of κ u v z t x r = exE 𝓤 _ (λ ws. snd∗ 𝓤 (sem 𝓤 H A (lasts makingEnded (κ, tt) (u, (v, (z, (t, (x, tt))))) ws)) (fact 𝓤 (r ≡ beside x (gives u v z t (now x)))))
 
 module _ (B : ByValue) where
   abbrev pub settingEnded : Ended

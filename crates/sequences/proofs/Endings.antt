@@ -1,55 +1,34 @@
--- How the calls of a sequence end, and what it tells then: every call sees as many samples, so all end as the first.
+-- What a sequence tells of how its calls ended: as the signal was made, since a setting of one that was made sees its edition and as many samples.
 --     measured-told        `measured`: nothing is measured of a signal that was refused
 --     powered-told         `powered`: what its last call says is told where none was refused
+--     told-as-made and the laws behind it          what specs/Told.antt claims
 -- Assumes nothing.
 use mathlib.Core.Path.{_≡_, refl, sym, ap, _∙_}
-use mathlib.Core.Bool.{Bool, true, false}
-use mathlib.Core.List.{List, [], _∷_}
+use mathlib.Core.List.{List, []}
 use mathlib.Core.Logic.{_⊎_, inl, inr, ⊎-elim}
 use Prim.Native.Nat.{ℕ, zero, suc}
 use native.Mathlib.Omega.{arith}
 use lib.Ieee.{Float}
 use lib.ListN.{length}
 use Rattle.answers.specs.declared.Outcome.{Outcome}
-use Rattle.answers.specs.declared.Outcome.the-variants.{Done}
 use Rattle.answers.specs.declared.Measured.{Measured}
-use Rattle.answers.specs.Numbers.{numberOf, ifDone, tooLong}
+use Rattle.answers.specs.Left.{Left, left, answeredAs}
+use Rattle.answers.specs.Numbers.{numberOf, ifDone}
+use Rattle.answers.proofs.Ended.{if-refused, if-done}
 use Rattle.laws.specs.Literals.{zero32}
 use Rattle.generator.specs.declared.Wave.{Wave}
-use Rattle.generator.specs.declared.Wave.the-variants.{DC}
 use Rattle.port.specs.declared.Reading.{Reading}
-use Rattle.spectrum.specs.Grid.{onGrid}
-use Rattle.spectrum.specs.Spectrum.{outcomeOf}
-use Rattle.answers.proofs.Ended.{if-refused, if-done, if-either}
-use Rattle.signal.specs.declared.State.{State}
+use Rattle.distortion.specs.Editions.{byEdition}
 use Rattle.signal.specs.declared.Metrics.{Metrics}
-use Rattle.signal.specs.State.{zeroMetrics, zeroState}
-use Rattle.answers.specs.Left.{Left, left, answeredAs}
-use Rattle.signal.specs.Calls.{SignalLeft, answer, highest, unlessRefused, made, remade, newOf, dutySet, newPortOf}
-use Rattle.signal.specs.Sequence.{run, setting, duty}
-use Rattle.signal.proofs.Ends.{chain, refused}
+use Rattle.signal.specs.State.{zeroMetrics, zeroState, fresh}
+use Rattle.signal.specs.Calls.{SignalLeft}
+use Rattle.signal.specs.Sequence.{setting, duty}
+use Rattle.signal.specs.Editions.{remadeBy, newBy, newPortBy, outcomeBy, nextBy}
+use Rattle.signal.proofs.InEdition.{ends-new, ends-port, ends-set, remade-by-refused, named-new}
 use Rattle.sequences.specs.declared.MetricsAnswer.{MetricsAnswer}
-use Rattle.sequences.specs.Told.{withVoltage, metricsIn, portPower, metricsTold, powerTold}
+use Rattle.sequences.specs.Told.{withVoltage, metricsIn, portPower, measuredAfter, powerTold, ToldAsMade, PowerAsMade}
+use Rattle.sequences.specs.Told.{ToldDone, ToldRefused, PowerDone, PowerRefused, SetAfterMade}
 use Rattle.sequences.proofs.Lengths.{new-length}
-
--- ---- a call on samples ends as their number says
-
-judged-outcome : (s : State) (xs : List Float) (done : SignalLeft) → done .answer .outcome ≡ Done → unlessRefused s xs done .answer .outcome ≡ outcomeOf (length xs) false
-unfolding unlessRefused outcomeOf ifDone
-judged-outcome s xs done e = go (tooLong (length xs)) (onGrid (length xs))
-  where
-    go : (long grid : Bool) → ifDone (chain long grid) done (left (answer (chain long grid) s) xs) .answer .outcome ≡ chain long grid
-    go true grid = refl
-    go false false = refl
-    go false true = e
-
-remade-outcome : (top : ℕ) (earlier next : State) (xs : List Float) → remade top earlier next xs .answer .outcome ≡ outcomeOf (length xs) false
-unfolding remade made
-remade-outcome top earlier next xs = judged-outcome earlier xs (made top next xs) refl
-
--- a refused call answers the state it was given
-stays : (s : State) (xs : List Float) (done : SignalLeft) (o : Outcome) → o ≡ outcomeOf (length xs) false → (numberOf o ≡ 0 → ⊥) → unlessRefused s xs done ≡ left (answer o s) xs
-stays s xs done o ended n = sym (refused s xs done o (numberOf o) ended refl n)
 
 zero-or-not : (k : ℕ) → (k ≡ 0) ⊎ (k ≡ 0 → ⊥)
 zero-or-not zero = inl refl
@@ -60,58 +39,76 @@ zero-or-not (suc k) = inr (λ e. omega (arith, e))
 abbrev metricsAnswer : Outcome → Metrics → MetricsAnswer
 metricsAnswer o m = record { outcome = o; metrics = m }
 
-module _ (wave : Wave) (amplitude frequency cycle : Float) (xs : List Float) where
+module _ (wave : Wave) (amplitude frequency : Float) (edition : ℕ) (cycle : Float) (xs : List Float) where
   abbrev first : SignalLeft
-  first = newOf highest wave amplitude frequency xs
+  first = newBy wave amplitude frequency edition xs
 
   abbrev last : SignalLeft
-  last = run highest first (setting (duty cycle) ∷ [])
+  last = nextBy first (setting (duty cycle))
 
   abbrev x : Metrics
   x = metricsIn (last .answer)
 
-  last-outcome : last .answer .outcome ≡ outcomeOf (length xs) false
-  last-outcome = remade-outcome highest _ _ (first .places) ∙ ap (λ (n : ℕ). outcomeOf n false) (new-length highest wave amplitude frequency xs)
-
-  module _ (o : Outcome) (ended : o ≡ outcomeOf (length xs) false) where
-    -- the zero state comes back from either call
-    last-refused : (numberOf o ≡ 0 → ⊥) → last ≡ left (answer o zeroState) xs
-    unfolding remade
-    last-refused n =
-        ap (λ (l : SignalLeft). dutySet highest (l .answer .state) cycle (l .places)) (stays zeroState xs _ o ended n)
-        ∙ stays zeroState xs _ o ended n
+  module _ (o : Outcome) (ended : o ≡ outcomeBy edition (length xs)) where
+    -- the zero state, whose edition is 0, comes back from either call
+    last-refused : (numberOf o ≡ 0 → ⊥) → x ≡ zeroMetrics
+    unfolding remadeBy byEdition
+    last-refused n = ap (λ (l : SignalLeft). metricsIn (nextBy l (setting (duty cycle)) .answer)) (remade-by-refused edition zeroState (fresh wave amplitude frequency edition) xs o ended n)
 
     zero-where-refused : x ≡ ifDone o x zeroMetrics
     zero-where-refused =
-        ⊎-elim (λ z. sym (if-done o x zeroMetrics (numberOf o) refl z)) (λ n. ap (λ (l : SignalLeft). metricsIn (l .answer)) (last-refused n) ∙ sym (if-refused o x zeroMetrics (numberOf o) refl n))
-        (zero-or-not (numberOf o))
+        ⊎-elim (λ z. sym (if-done o x zeroMetrics (numberOf o) refl z)) (λ n. last-refused n ∙ sym (if-refused o x zeroMetrics (numberOf o) refl n)) (zero-or-not (numberOf o))
 
-    pub measured-told : (m : Metrics) (ys : List Float) → left m ys ≡ answeredAs metricsIn last → left (metricsAnswer o m) ys ≡ answeredAs metricsTold last
+    pub measured-told : (m : Metrics) (ys : List Float) → left m ys ≡ answeredAs metricsIn last → left (metricsAnswer o m) ys ≡ measuredAfter first (setting (duty cycle))
     measured-told m ys read =
         ap (λ (t : Left Metrics (List Float)). left (metricsAnswer o (t .answer)) (t .places)) read ∙ ap (λ (y : Metrics). left (metricsAnswer o y) (last .places)) zero-where-refused
-        ∙ ap (λ (u : Outcome). left (metricsAnswer u (ifDone u x zeroMetrics)) (last .places)) (ended ∙ sym last-outcome)
+        ∙ ap (λ (u : Outcome). left (metricsAnswer u (ifDone u x zeroMetrics)) (last .places)) (ended ∙ sym (ends-new wave amplitude frequency edition xs))
 
 -- ---- `powered`
 
 abbrev powerAnswer : Outcome → Float → Measured
 powerAnswer o y = record { outcome = o; value = y }
 
-module _ (voltage current : Float) (frequency : Reading) (next : Float) (xs : List Float) where
+module _ (voltage current : Float) (frequency : Reading) (edition : ℕ) (next : Float) (xs : List Float) where
   abbrev set : SignalLeft
-  set = withVoltage next (newPortOf highest voltage current frequency xs)
+  set = withVoltage next (newPortBy voltage current frequency edition xs)
 
   abbrev y : Float
   y = portPower (set .answer)
 
-  set-outcome : set .answer .outcome ≡ outcomeOf (length xs) false
-  unfolding newPortOf
-  set-outcome =
-      let l = newOf highest DC voltage zero32 xs in
-      let e : l .answer .outcome ≡ outcomeOf (length xs) false = remade-outcome highest _ _ xs in
-      if-either (λ (m : SignalLeft). m .answer .outcome ≡ outcomeOf (length xs) false) (l .answer .outcome) _ l e e
-
-  pub powered-told : (o : Outcome) (w v : Float) (ys : List Float) → o ≡ outcomeOf (length xs) false → left w ys ≡ answeredAs portPower set → v ≡ ifDone o w zero32
+  pub powered-told : (o : Outcome) (w v : Float) (ys : List Float) → o ≡ outcomeBy edition (length xs) → left w ys ≡ answeredAs portPower set → v ≡ ifDone o w zero32
       → left (powerAnswer o v) ys ≡ answeredAs powerTold set
   powered-told o w v ys ended read e =
       ap (λ (z : Float). left (powerAnswer o z) ys) e ∙ ap (λ (t : Left Float (List Float)). left (powerAnswer o (ifDone o (t .answer) zero32)) (t .places)) read
-      ∙ ap (λ (u : Outcome). left (powerAnswer u (ifDone u y zero32)) (set .places)) (ended ∙ sym set-outcome)
+      ∙ ap (λ (u : Outcome). left (powerAnswer u (ifDone u y zero32)) (set .places)) (ended ∙ sym (ends-port voltage current frequency edition xs))
+
+-- ---- what is claimed
+
+pub told-as-made : ToldAsMade
+told-as-made wave amplitude frequency edition xs c = ends-new wave amplitude frequency edition xs
+
+pub power-as-made : PowerAsMade
+power-as-made voltage current frequency edition v xs = ends-port voltage current frequency edition xs
+
+pub told-done : ToldDone
+told-done wave amplitude frequency edition xs c z = if-done (newBy wave amplitude frequency edition xs .answer .outcome) _ _ _ (sym (ap numberOf (ends-new wave amplitude frequency edition xs))) z
+
+pub told-refused : ToldRefused
+told-refused wave amplitude frequency edition xs c n =
+    if-refused (newBy wave amplitude frequency edition xs .answer .outcome) _ _ _ (sym (ap numberOf (ends-new wave amplitude frequency edition xs))) n
+
+pub power-done : PowerDone
+power-done voltage current frequency edition v xs z =
+    if-done (newPortBy voltage current frequency edition xs .answer .outcome) _ _ _ (sym (ap numberOf (ends-port voltage current frequency edition xs))) z
+
+pub power-refused : PowerRefused
+power-refused voltage current frequency edition v xs n =
+    if-refused (newPortBy voltage current frequency edition xs .answer .outcome) _ _ _ (sym (ap numberOf (ends-port voltage current frequency edition xs))) n
+
+pub set-after-made : SetAfterMade
+set-after-made wave amplitude frequency edition xs c z =
+    let l = newBy wave amplitude frequency edition xs in
+    let same = named-new wave amplitude frequency edition xs [] z in
+    ap numberOf (ends-set l c) ∙ ap (λ (e : ℕ). numberOf (outcomeBy e (length (l .places)))) same
+    ∙ ap (λ (n : ℕ). numberOf (outcomeBy edition n)) (new-length wave amplitude frequency edition xs)
+    ∙ (sym (ap numberOf (ends-new wave amplitude frequency edition xs)) ∙ z)

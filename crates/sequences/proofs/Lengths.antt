@@ -14,8 +14,10 @@ use Rattle.generator.specs.declared.Wave.the-variants.{DC}
 use Rattle.generator.proofs.Kept.{generated-length}
 use Rattle.port.specs.declared.Reading.{Reading}
 use Rattle.spectrum.specs.Spectrum.{outcomeOf}
+use Rattle.distortion.proofs.ByEdition.{by-either}
 use Rattle.signal.specs.declared.State.{State}
-use Rattle.signal.specs.Calls.{SignalLeft, answer, unlessRefused, made, remade, newOf, phaseSet, dutySet, newPortOf, resetOf}
+use Rattle.signal.specs.Calls.{SignalLeft, unlessRefused, made, remade, ported, resetOf}
+use Rattle.signal.specs.Editions.{remadeBy, newBy, newPortBy, editionIn, phaseBy, dutyBy}
 
 judged-length : (s : State) (xs : List Float) (done : SignalLeft) → length (done .places) ≡ length xs → length (unlessRefused s xs done .places) ≡ length xs
 unfolding unlessRefused
@@ -25,20 +27,25 @@ remade-length : (top : ℕ) (earlier next : State) (xs : List Float) → length 
 unfolding remade made
 remade-length top earlier next xs = judged-length earlier xs (made top next xs) (generated-length (next .shape) xs)
 
-pub new-length : (top : ℕ) (wave : Wave) (amplitude frequency : Float) (xs : List Float) → length (newOf top wave amplitude frequency xs .places) ≡ length xs
-new-length top wave amplitude frequency xs = remade-length top _ _ xs
+by-length : (edition : ℕ) (earlier next : State) (xs : List Float) → length (remadeBy edition earlier next xs .places) ≡ length xs
+unfolding remadeBy
+by-length edition earlier next xs =
+    by-either (λ (l : SignalLeft). length (l .places) ≡ length xs) edition (λ (top : ℕ). remade top earlier next xs) _ (λ top. remade-length top earlier next xs) refl
 
-pub phase-length : (top : ℕ) (s : State) (phase : Float) (xs : List Float) → length (phaseSet top s phase xs .places) ≡ length xs
-phase-length top s phase xs = remade-length top _ _ xs
+pub new-length : (wave : Wave) (amplitude frequency : Float) (edition : ℕ) (xs : List Float) → length (newBy wave amplitude frequency edition xs .places) ≡ length xs
+new-length wave amplitude frequency edition xs = by-length edition _ _ xs
 
-pub duty-length : (top : ℕ) (s : State) (duty : Float) (xs : List Float) → length (dutySet top s duty xs .places) ≡ length xs
-duty-length top s duty xs = remade-length top _ _ xs
+pub phase-length : (s : State) (phase : Float) (xs : List Float) → length (phaseBy s phase xs .places) ≡ length xs
+phase-length s phase xs = by-length (editionIn s) _ _ xs
 
-pub port-length : (top : ℕ) (voltage current : Float) (frequency : Reading) (xs : List Float) → length (newPortOf top voltage current frequency xs .places) ≡ length xs
-unfolding newPortOf
-port-length top voltage current frequency xs =
-    let l = newOf top DC voltage zero32 xs in
-    let e = new-length top DC voltage zero32 xs in
+pub duty-length : (s : State) (duty : Float) (xs : List Float) → length (dutyBy s duty xs .places) ≡ length xs
+duty-length s duty xs = by-length (editionIn s) _ _ xs
+
+pub port-length : (voltage current : Float) (frequency : Reading) (edition : ℕ) (xs : List Float) → length (newPortBy voltage current frequency edition xs .places) ≡ length xs
+unfolding ported
+port-length voltage current frequency edition xs =
+    let l = newBy DC voltage zero32 edition xs in
+    let e = new-length DC voltage zero32 edition xs in
     if-either (λ (m : SignalLeft). length (m .places) ≡ length xs) (l .answer .outcome) _ l e e
 
 pub reset-length : (s : State) (xs : List Float) → length (resetOf s xs .places) ≡ length xs

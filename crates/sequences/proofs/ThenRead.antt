@@ -34,52 +34,56 @@ use Rattle.sequences.proofs.Reading.{to-reading, asked, settled}
 use Rattle.sequences.proofs.Begun.{beginFn, ended, clauses, h, l₁, Post, exits, Ev, begunWith, begun, begun-meets}
 
 abbrev rest : Name → Body
-rest k = seq (assign (place 12 []) (addrOf (place 6 []))) (seq (call k (copy (place 12 []) ∷ []) (place 0 [])) return)
+rest k = seq (assign (place 13 []) (addrOf (place 7 []))) (seq (call k (copy (place 13 []) ∷ []) (place 0 [])) return)
 
-module _ (B₀ : ByValue) (L₀ : ByValueLaws B₀) (B₁ : ByValue) (L₁ : ByValueLaws B₁) (B₂ : ByValue) (L₂ : ByValueLaws B₂) (B₃ : ByValue) (L₃ : ByValueLaws B₃) (B₄ : ByValue) (L₄ : ByValueLaws B₄)
-    (made : B₁ .like .Denot → B₂ .like .Denot → B₃ .like .Denot → List Float → SignalLeft) (set : Answer → B₄ .like .Denot → List Float → SignalLeft) (part : Answer → B₀ .like .Denot)
+module _ (B₀ : ByValue) (L₀ : ByValueLaws B₀) (B₁ : ByValue) (L₁ : ByValueLaws B₁) (B₂ : ByValue) (L₂ : ByValueLaws B₂) (B₃ : ByValue) (L₃ : ByValueLaws B₃)
+    (B₄ : ByValue) (L₄ : ByValueLaws B₄) (B₅ : ByValue) (L₅ : ByValueLaws B₅)
+    (made : B₁ .like .Denot → B₂ .like .Denot → B₃ .like .Denot → B₄ .like .Denot → List Float → SignalLeft) (set : Answer → B₅ .like .Denot → List Float → SignalLeft)
+    (part : Answer → B₀ .like .Denot)
     (claim : SignalLeft → B₀ .like .Denot → List Float → Type 0) (holds : (l : SignalLeft) → claim l (part (l .answer)) (l .places))
-    (made-length : (u : B₁ .like .Denot) (v : B₂ .like .Denot) (z : B₃ .like .Denot) (xs : List Float) → length (made u v z xs .places) ≡ length xs)
-    (set-length : (m : Answer) (y : B₄ .like .Denot) (xs : List Float) → length (set m y xs .places) ≡ length xs) where
+    (made-length : (u : B₁ .like .Denot) (v : B₂ .like .Denot) (z : B₃ .like .Denot) (t : B₄ .like .Denot) (xs : List Float) → length (made u v z t xs .places) ≡ length xs)
+    (set-length : (m : Answer) (y : B₅ .like .Denot) (xs : List Float) → length (set m y xs .places) ≡ length xs) where
   module _ {M : Type 1} (𝓤 : URA M) (H : Heap 𝓤) (A : Atoms 𝓤) (W : Given 𝓤 H A) (κ : Lft) (q : Share) (b o : ℕ) (γ : GName) (ys : List Float) (u : B₁ .like .Denot) (v : B₂ .like .Denot)
-      (z : B₃ .like .Denot) (y : B₄ .like .Denot)
-      (u-is : Is (rowOf B₁) u (L₁ .val u ∷ [])) (v-is : Is (rowOf B₂) v (L₂ .val v ∷ [])) (z-is : Is (rowOf B₃) z (L₃ .val z ∷ [])) (y-is : Is (rowOf B₄) y (L₄ .val y ∷ []))
-      (k : Name) (C : Calls 𝓤 H) (Λ : Loops 𝓤 H) (fm : FmC 𝓤 H (W .laws) C) (known : Triple 𝓤 (C k) (Reading B₀ part 𝓤 H A)) (b₀ b₁ b₂ b₃ b₄ b₅ b₆ b₇ b₈ b₉ b₁₀ b₁₁ b₁₂ : ℕ) (w w₁ : Val) where
+      (z : B₃ .like .Denot) (t : B₄ .like .Denot) (y : B₅ .like .Denot)
+      (u-is : Is (rowOf B₁) u (L₁ .val u ∷ [])) (v-is : Is (rowOf B₂) v (L₂ .val v ∷ [])) (z-is : Is (rowOf B₃) z (L₃ .val z ∷ [])) (t-is : Is (rowOf B₄) t (L₄ .val t ∷ []))
+      (y-is : Is (rowOf B₅) y (L₅ .val y ∷ []))
+      (k : Name) (C : Calls 𝓤 H) (Λ : Loops 𝓤 H) (fm : FmC 𝓤 H (W .laws) C) (known : Triple 𝓤 (C k) (Reading B₀ part 𝓤 H A)) (b₀ b₁ b₂ b₃ b₄ b₅ b₆ b₇ b₈ b₉ b₁₀ b₁₁ b₁₂ b₁₃ : ℕ) (w w₁ : Val) where
     abbrev l : SignalLeft
-    l = l₁ B₀ B₁ L₁ B₂ L₂ B₃ L₃ B₄ L₄ made set claim 𝓤 H A W κ q b o γ ys u v z y u-is v-is z-is y-is
+    l = l₁ B₀ B₁ L₁ B₂ L₂ B₃ L₃ B₄ L₄ B₅ L₅ made set claim 𝓤 H A W κ q b o γ ys u v z t y u-is v-is z-is t-is y-is
 
     abbrev g : Signal
-    g = h B₀ B₁ L₁ B₂ L₂ B₃ L₃ B₄ L₄ made set claim 𝓤 H A W κ q b o γ ys u v z y u-is v-is z-is y-is l
+    g = h B₀ B₁ L₁ B₂ L₂ B₃ L₃ B₄ L₄ B₅ L₅ made set claim 𝓤 H A W κ q b o γ ys u v z t y u-is v-is z-is t-is y-is l
 
     abbrev E : Env 𝓤 H
-    E = Ev B₀ B₁ L₁ B₂ L₂ B₃ L₃ B₄ L₄ made set claim 𝓤 H A W κ q b o γ ys u v z y u-is v-is z-is y-is b₀ b₁ b₂ b₃ b₄ b₅ b₆ b₇ b₈ b₉ b₁₀ b₁₁ b₁₂
+    E = Ev B₀ B₁ L₁ B₂ L₂ B₃ L₃ B₄ L₄ B₅ L₅ made set claim 𝓤 H A W κ q b o γ ys u v z t y u-is v-is z-is t-is y-is b₀ b₁ b₂ b₃ b₄ b₅ b₆ b₇ b₈ b₉ b₁₀ b₁₁ b₁₂ b₁₃
 
-    ends : Sq W (begunWith B₀ B₁ L₁ B₂ L₂ B₃ L₃ B₄ L₄ made set claim 𝓤 H A W κ q b o γ ys u v z y u-is v-is z-is y-is b₀ b₁ b₂ b₃ b₄ b₅ b₆ b₇ b₈ b₉ b₁₀ b₁₁ b₁₂ w w₁)
-        (runs C Λ E (rest k) (atRet E (Post B₀ B₁ L₁ B₂ L₂ B₃ L₃ B₄ L₄ made set claim 𝓤 H A W κ q b o γ ys u v z y u-is v-is z-is y-is)))
+    ends : Sq W (begunWith B₀ B₁ L₁ B₂ L₂ B₃ L₃ B₄ L₄ B₅ L₅ made set claim 𝓤 H A W κ q b o γ ys u v z t y u-is v-is z-is t-is y-is b₀ b₁ b₂ b₃ b₄ b₅ b₆ b₇ b₈ b₉ b₁₀ b₁₁ b₁₂ b₁₃ w w₁)
+        (runs C Λ E (rest k) (atRet E (Post B₀ B₁ L₁ B₂ L₂ B₃ L₃ B₄ L₄ B₅ L₅ made set claim 𝓤 H A W κ q b o γ ys u v z t y u-is v-is z-is t-is y-is)))
     ends =
         assigns ! (addr ! (from ! (stop !))) (from ! (stop !)) (init ! 5 refl (tt, tt)) $
-        use3 W (later (some (λ (p : ℕ × GName). raw (Reading B₀ part 𝓤 H A .pre (to-reading B₀ part 𝓤 H A W κ q b₆ g p)) ⊛ raw (withheld 𝓤 H A W κ q b₆ (p .0) (p .1)))))
-        (goes-lent 𝓤 H A W κ q b₆ (Reading B₀ part 𝓤 H A) (to-reading B₀ part 𝓤 H A W κ q b₆ g) g (asked B₀ part 𝓤 H A W κ q b₆ g) (val κ g)) $ await ! tt $ pick ! (λ p. split ! $
-        calls-at ! fm (Reading B₀ part 𝓤 H A) known (to-reading B₀ part 𝓤 H A W κ q b₆ g p) (and-then ! (load ! (from ! (stop !)) (look ! 4 refl)) (no-more !)) (λ w₀.
-        use2 W (later (‵ (rowOf B₀ .own (part (l .answer)) (w₀ ∷ [])) ⊛ (‵ (fat fullShare (T′.mir erased) b₆ 0 (val κ g)) ⊛ ‵ (R κ .own g (val κ g ∷ [])) ⊛ ‵ (flft κ q))))
-        (settled B₀ part 𝓤 H A W κ q b₆ g p w₀) $ await ! tt $ split ! $
+        use3 W (later (some (λ (p : ℕ × GName). raw (Reading B₀ part 𝓤 H A .pre (to-reading B₀ part 𝓤 H A W κ q b₇ g p)) ⊛ raw (withheld 𝓤 H A W κ q b₇ (p .0) (p .1)))))
+        (goes-lent 𝓤 H A W κ q b₇ (Reading B₀ part 𝓤 H A) (to-reading B₀ part 𝓤 H A W κ q b₇ g) g (asked B₀ part 𝓤 H A W κ q b₇ g) (val κ g)) $ await ! tt $ pick ! (λ p. split ! $
+        calls-at ! fm (Reading B₀ part 𝓤 H A) known (to-reading B₀ part 𝓤 H A W κ q b₇ g p) (and-then ! (load ! (from ! (stop !)) (look ! 4 refl)) (no-more !)) (λ w₀.
+        use2 W (later (‵ (rowOf B₀ .own (part (l .answer)) (w₀ ∷ [])) ⊛ (‵ (fat fullShare (T′.mir erased) b₇ 0 (val κ g)) ⊛ ‵ (R κ .own g (val κ g ∷ [])) ⊛ ‵ (flft κ q))))
+        (settled B₀ part 𝓤 H A W κ q b₇ g p w₀) $ await ! tt $ split ! $
         peeks ! (rowOf B₀) (Is (rowOf B₀)) (shows 𝓤 H A (rowOf B₀)) (part (l .answer)) (w₀ ∷ []) (λ is. move ! (1 ∷ []) $ split3 ! $
-        -- [_6; what the signal owns; the token; what the result owns; …; …; _12; …; _11; …; .. ; _1; …; room for _0; …]
-        land ! (from ! (stop !)) (init ! 29 refl (L₀ .lawful 𝓤 H A W .typed (part (l .answer)) _ is .0)) $
-        returns ! (look ! 29 refl) $ forget ! 0 refl $ forget ! 6 refl $ forget ! 8 refl $ forget ! 10 refl $ forget ! 12 refl $ forget ! 14 refl $ forget ! 16 refl $ forget ! 19 refl $
-        forget ! 21 refl $ forget ! 23 refl $ forget ! 25 refl $ forget ! 27 refl $ forget ! 29 refl $
-        move ! (29 ∷ 30 ∷ []) $ free1 ! $ move ! (27 ∷ 28 ∷ []) $ free1 ! $ move ! (25 ∷ 26 ∷ []) $ free1 ! $ move ! (23 ∷ 24 ∷ []) $ free1 ! $ move ! (21 ∷ 22 ∷ []) $ free1 ! $
+        -- [_7; what the signal owns; the token; what the result owns; …; …; _13; …; _12; …; .. ; _1; …; room for _0; …]
+        land ! (from ! (stop !)) (init ! 31 refl (L₀ .lawful 𝓤 H A W .typed (part (l .answer)) _ is .0)) $
+        returns ! (look ! 31 refl) $ forget ! 0 refl $ forget ! 6 refl $ forget ! 8 refl $ forget ! 10 refl $ forget ! 12 refl $ forget ! 14 refl $ forget ! 16 refl $ forget ! 19 refl $
+        forget ! 21 refl $ forget ! 23 refl $ forget ! 25 refl $ forget ! 27 refl $ forget ! 29 refl $ forget ! 31 refl $
+        move ! (31 ∷ 32 ∷ []) $ free1 ! $ move ! (29 ∷ 30 ∷ []) $ free1 ! $ move ! (27 ∷ 28 ∷ []) $ free1 ! $ move ! (25 ∷ 26 ∷ []) $ free1 ! $ move ! (23 ∷ 24 ∷ []) $ free1 ! $
+        move ! (21 ∷ 22 ∷ []) $ free1 ! $
         move ! (19 ∷ 20 ∷ []) $ free1 ! $ move ! (0 ∷ 18 ∷ []) $ free1 ! $
         move ! (15 ∷ 16 ∷ []) $ free1 ! $ move ! (13 ∷ 14 ∷ []) $ free1 ! $ move ! (11 ∷ 12 ∷ []) $ free1 ! $ move ! (9 ∷ 10 ∷ []) $ free1 ! $ move ! (7 ∷ 8 ∷ []) $ free1 ! $ move ! (5 ∷ 6 ∷ []) $
         free1 ! $ free0 ! $
-        keep ! (1 ∷ 0 ∷ 2 ∷ []) $ by ! (exits B₀ B₁ L₁ B₂ L₂ B₃ L₃ B₄ L₄ made set claim 𝓤 H A W κ q b o γ ys u v z y u-is v-is z-is y-is l (part (l .answer)) w₀
-        (set-length (made u v z ys .answer) y (made u v z ys .places) ∙ made-length u v z ys) (holds l)))))
+        keep ! (1 ∷ 0 ∷ 2 ∷ []) $ by ! (exits B₀ B₁ L₁ B₂ L₂ B₃ L₃ B₄ L₄ B₅ L₅ made set claim 𝓤 H A W κ q b o γ ys u v z t y u-is v-is z-is t-is y-is l (part (l .answer)) w₀
+        (set-length (made u v z t ys .answer) y (made u v z t ys .places) ∙ made-length u v z t ys) (holds l)))))
 
-  pub read-meets : {M : Type 1} (𝓤 : URA M) (H : Heap 𝓤) (A : Atoms 𝓤) → Given 𝓤 H A → (f g k : Name) (𝓣 : Tables 𝓤 H) → Triple 𝓤 (𝓣 .C f) (Making B₁ B₂ B₃ made 𝓤 H A)
-      → Triple 𝓤 (𝓣 .C g) (Setting B₄ set 𝓤 H A) → Triple 𝓤 (𝓣 .C k) (Reading B₀ part 𝓤 H A)
-      → Meets 𝓤 H A (ended B₀ B₁ L₁ B₂ L₂ B₃ L₃ B₄ L₄ .signature) (WpFn 𝓤 H (𝓣 .C) (𝓣 .Λ) (beginFn (B₀ .τ) (B₁ .τ) (B₂ .τ) (B₃ .τ) (B₄ .τ) f g (rest k)))
-      (closing 𝓤 H A (ended B₀ B₁ L₁ B₂ L₂ B₃ L₃ B₄ L₄) (clauses B₀ B₁ L₁ B₂ L₂ B₃ L₃ B₄ L₄ made set claim 𝓤 H A))
+  pub read-meets : {M : Type 1} (𝓤 : URA M) (H : Heap 𝓤) (A : Atoms 𝓤) → Given 𝓤 H A → (f g k : Name) (𝓣 : Tables 𝓤 H) → Triple 𝓤 (𝓣 .C f) (Making B₁ B₂ B₃ B₄ made 𝓤 H A)
+      → Triple 𝓤 (𝓣 .C g) (Setting B₅ set 𝓤 H A) → Triple 𝓤 (𝓣 .C k) (Reading B₀ part 𝓤 H A)
+      → Meets 𝓤 H A (ended B₀ B₁ L₁ B₂ L₂ B₃ L₃ B₄ L₄ B₅ L₅ .signature) (WpFn 𝓤 H (𝓣 .C) (𝓣 .Λ) (beginFn (B₀ .τ) (B₁ .τ) (B₂ .τ) (B₃ .τ) (B₄ .τ) (B₅ .τ) f g (rest k)))
+      (closing 𝓤 H A (ended B₀ B₁ L₁ B₂ L₂ B₃ L₃ B₄ L₄ B₅ L₅) (clauses B₀ B₁ L₁ B₂ L₂ B₃ L₃ B₄ L₄ B₅ L₅ made set claim 𝓤 H A))
   read-meets 𝓤 H A W f g k 𝓣 known known₁ known₂ =
-      begun-meets B₀ B₁ L₁ B₂ L₂ B₃ L₃ B₄ L₄ made set claim 𝓤 H A W f g (rest k) 𝓣 (λ κ q b o γ ys u v z y u-is v-is z-is y-is.
-      begun B₀ B₁ L₁ B₂ L₂ B₃ L₃ B₄ L₄ made set claim 𝓤 H A W κ q b o γ ys u v z y u-is v-is z-is y-is f g (rest k) (𝓣 .C) (𝓣 .Λ) (fmOf 𝓤 H (W .laws) 𝓣) known known₁
-      (ends 𝓤 H A W κ q b o γ ys u v z y u-is v-is z-is y-is k (𝓣 .C) (𝓣 .Λ) (fmOf 𝓤 H (W .laws) 𝓣) known₂))
+      begun-meets B₀ B₁ L₁ B₂ L₂ B₃ L₃ B₄ L₄ B₅ L₅ made set claim 𝓤 H A W f g (rest k) 𝓣 (λ κ q b o γ ys u v z t y u-is v-is z-is t-is y-is.
+      begun B₀ B₁ L₁ B₂ L₂ B₃ L₃ B₄ L₄ B₅ L₅ made set claim 𝓤 H A W κ q b o γ ys u v z t y u-is v-is z-is t-is y-is f g (rest k) (𝓣 .C) (𝓣 .Λ) (fmOf 𝓤 H (W .laws) 𝓣) known known₁
+      (ends 𝓤 H A W κ q b o γ ys u v z t y u-is v-is z-is t-is y-is k (𝓣 .C) (𝓣 .Λ) (fmOf 𝓤 H (W .laws) 𝓣) known₂))

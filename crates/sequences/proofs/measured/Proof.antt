@@ -1,4 +1,4 @@
--- `sequences::measured` meets its contract: how the calls ended, beside what the last one says. Assumes nothing.
+-- `sequences::measured` meets its contract: how the signal was made, beside what the last call says. Assumes nothing.
 use borrow.Author.Needs.{needs}
 use denote.Ref.{now}
 use Rattle.sequences.proofs.Endings.{measured-told}
@@ -17,7 +17,7 @@ same-length c = search needs
 returns : tie.Need-returns
 returns c =
     let args = c .before .before .before .before .before .before .args in
-    measured-told (args .wave) (args .amplitude) (args .frequency) (args .duty-cycle) (now (args .samples)) _ (c .before .before .before .before .judged .ensures) _ _
+    measured-told (args .wave) (args .amplitude) (args .frequency) (args .edition) (args .duty-cycle) (now (args .samples)) _ (c .before .before .before .before .judged .ensures) _ _
     (c .before .before .metrics-after .ensures)
 
 pub measured-spec : {M : Type 1} → statement M

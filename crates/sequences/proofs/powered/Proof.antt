@@ -1,4 +1,4 @@
--- `sequences::powered` meets its contract: how the calls ended, beside what the last one says. Assumes nothing.
+-- `sequences::powered` meets its contract: how the signal was made, beside what the last call says. Assumes nothing.
 use borrow.Author.Needs.{needs}
 use denote.Ref.{now}
 use Rattle.sequences.proofs.Endings.{powered-told}
@@ -20,7 +20,7 @@ same-length c = search needs
 returns : tie.Need-returns
 returns c =
     let args = c .before .before .before .before .before .before .before .args in
-    powered-told (args .voltage) (args .current) (args .frequency) (args .next) (now (args .samples)) _ _ _ _ (c .before .before .before .before .before .judged .ensures)
+    powered-told (args .voltage) (args .current) (args .frequency) (args .edition) (args .next) (now (args .samples)) _ _ _ _ (c .before .before .before .before .before .judged .ensures)
     (c .before .before .before .power-after .ensures) (c .unless-refused .ensures)
 
 pub powered-spec : {M : Type 1} → statement M

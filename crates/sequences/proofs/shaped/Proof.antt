@@ -5,9 +5,10 @@ use lib.Ieee.{Float}
 use contract.Running.{givenOf, tables, tablesOf}
 use denote.Triple.Spec.{tripleOf}
 use denote.Triple.Table.{entered, cited}
-use Rattle.signal.specs.Calls.{SignalLeft, highest, newOf, phaseSet, dutySet}
+use Rattle.signal.specs.Calls.{SignalLeft}
+use Rattle.signal.specs.Editions.{newBy, phaseBy, dutyBy}
 use Rattle.signal.specs.declared.Answer.{Answer}
-use Rattle.laws.proofs.ByValue.{number, number-laws}
+use Rattle.laws.proofs.ByValue.{number, number-laws, small, small-laws}
 use Rattle.held.proofs.ByValue.{wave, wave-laws}
 use Rattle.held.proofs.Signal.new.Symbol as new-def
 use Rattle.held.proofs.Signal.new.Met as new-thm
@@ -24,19 +25,19 @@ use Rattle.sequences.proofs.shaped.Statement as stated
 use Rattle.sequences.proofs.shaped.Code as code
 
 abbrev duty : Answer → Float → List Float → SignalLeft
-duty a d xs = dutySet highest (a .state) d xs
+duty a d xs = dutyBy (a .state) d xs
 
 abbrev phase : Answer → Float → List Float → SignalLeft
-phase a p xs = phaseSet highest (a .state) p xs
+phase a p xs = phaseBy (a .state) p xs
 
 pub shaped-spec : {M : Type 1} → stated.statement M
 unfolding code.routine tablesOf
 shaped-spec 𝓤 H 𝓜 𝓖 𝓡 =
     entered 𝓤 H (tripleOf 𝓤 H (𝓖 .A) shaped.signature (shaped.spec 𝓤 H (𝓖 .A) (𝓜 .mem) (𝓡 .run)))
     (tables 𝓤 H 𝓜 𝓡 code.env .C) (tables 𝓤 H 𝓜 𝓡 code.env .Λ) name code.function (code.unfolded 𝓤 H 𝓜 𝓡)
-    (twice-meets wave wave-laws number number-laws number number-laws number number-laws number number-laws (newOf highest) duty phase (new-length highest) (λ a. duty-length highest (a .state))
-    (λ a. phase-length highest (a .state))
+    (twice-meets wave wave-laws number number-laws number number-laws small small-laws number number-laws number number-laws newBy duty phase new-length (λ a. duty-length (a .state))
+    (λ a. phase-length (a .state))
     𝓤 H (𝓖 .A) (givenOf 𝓤 H 𝓜 𝓖) new-def.name duty-def.name phase-def.name (tablesOf 𝓤 H 𝓜 (tables 𝓤 H 𝓜 𝓡 code.env))
-    (cited 𝓤 H (Making wave number number (newOf highest) 𝓤 H (𝓖 .A)) 𝓜 𝓡 code.env new-def.name new-def.routine code.calls-held·Signal·new (new-thm.met 𝓤 H 𝓜 𝓖 𝓡))
+    (cited 𝓤 H (Making wave number number small newBy 𝓤 H (𝓖 .A)) 𝓜 𝓡 code.env new-def.name new-def.routine code.calls-held·Signal·new (new-thm.met 𝓤 H 𝓜 𝓖 𝓡))
     (cited 𝓤 H (Setting number duty 𝓤 H (𝓖 .A)) 𝓜 𝓡 code.env duty-def.name duty-def.routine code.calls-held·Signal·set-duty-cycle (duty-thm.met 𝓤 H 𝓜 𝓖 𝓡))
     (cited 𝓤 H (Setting number phase 𝓤 H (𝓖 .A)) 𝓜 𝓡 code.env phase-def.name phase-def.routine code.calls-held·Signal·set-phase (phase-thm.met 𝓤 H 𝓜 𝓖 𝓡)))

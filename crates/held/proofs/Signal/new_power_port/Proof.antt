@@ -3,10 +3,10 @@
 use contract.Running.{givenOf, tables, tablesOf}
 use denote.Triple.Spec.{tripleOf}
 use denote.Triple.Table.{entered, cited}
-use Rattle.signal.specs.Calls.{highest, newPortOf}
+use Rattle.signal.specs.Editions.{newPortBy}
 use Rattle.signal.proofs.new_power_port.Symbol as in-def
 use Rattle.signal.proofs.new_power_port.Met as in-thm
-use Rattle.laws.proofs.ByValue.{number, number-laws}
+use Rattle.laws.proofs.ByValue.{number, number-laws, small, small-laws}
 use Rattle.held.proofs.ByValue.{reading, reading-laws}
 use Rattle.held.proofs.Made.{Callee, made-meets}
 use Rattle.held.proofs.Signal.new_power_port.Key.{name}
@@ -19,6 +19,6 @@ unfolding code.routine tablesOf
 new-power-port-spec 𝓤 H 𝓜 𝓖 𝓡 =
     entered 𝓤 H (tripleOf 𝓤 H (𝓖 .A) new-power-port.signature (new-power-port.spec 𝓤 H (𝓖 .A) (𝓜 .mem) (𝓡 .run)))
     (tables 𝓤 H 𝓜 𝓡 code.env .C) (tables 𝓤 H 𝓜 𝓡 code.env .Λ) name code.function (code.unfolded 𝓤 H 𝓜 𝓡)
-    (made-meets number number-laws number number-laws reading reading-laws (newPortOf highest) 𝓤 H (𝓖 .A) (givenOf 𝓤 H 𝓜 𝓖) in-def.name (tablesOf 𝓤 H 𝓜 (tables 𝓤 H 𝓜 𝓡 code.env))
-    (cited 𝓤 H (Callee number number-laws number number-laws reading reading-laws (newPortOf highest) 𝓤 H (𝓖 .A)) 𝓜 𝓡 code.env in-def.name in-def.routine code.calls-signal·new-power-port
+    (made-meets number number-laws number number-laws reading reading-laws small small-laws newPortBy 𝓤 H (𝓖 .A) (givenOf 𝓤 H 𝓜 𝓖) in-def.name (tablesOf 𝓤 H 𝓜 (tables 𝓤 H 𝓜 𝓡 code.env))
+    (cited 𝓤 H (Callee number number-laws number number-laws reading reading-laws small small-laws newPortBy 𝓤 H (𝓖 .A)) 𝓜 𝓡 code.env in-def.name in-def.routine code.calls-signal·new-power-port
     (in-thm.met 𝓤 H 𝓜 𝓖 𝓡)))
