@@ -1,4 +1,5 @@
-/* A probe's main loop in small: a capture is read, its power worked out, its voltage timed, a bad line named and a bad sample told.
+/* A probe's main loop in small: a capture is read, its power worked out, its voltage timed, a bad line named and a bad sample told; then a signal is made,
+ * and its distortion by both editions.
  * bash examples/run.sh builds the library, compiles this with -Wall -Wextra -Werror and runs it. */
 #include "tilljingle.h"
 
@@ -24,6 +25,30 @@ static uint8_t print_figures(const float *samples, size_t n) {
     return answer.code;
   printf("largest of %zu samples %g; %u are no number, %u infinite\n", n, (double)answer.figures.max,
          (unsigned)answer.figures.not_numbers, (unsigned)answer.figures.infinite);
+  return 0;
+}
+
+/* pulses in a port's samples, and a harmonic of the port */
+static uint8_t print_signal(void) {
+  float samples[16];
+  tj_signal_answer signal = tj_signal_new(1, 5.0f, 2.0f, 1, samples, 16);
+  if (signal.code != 0)
+    return signal.code;
+  signal = tj_signal_set_duty_cycle(signal.signal, 0.25f, samples, 16);
+  printf("duty cycle %g of amplitude %g\n", (double)signal.signal.figures.duty_cycle_pos, (double)signal.signal.amplitude);
+
+  tj_set_harmonic(signal.signal.port.voltage_harmonics, 3, (tj_reading){true, 1.5f});
+  printf("third voltage harmonic %g%%\n", (double)tj_harmonic(signal.signal.port.voltage_harmonics, 3).value);
+  return signal.code;
+}
+
+/* the distortion of a sawtooth by one edition */
+static uint8_t print_thd(uint8_t edition) {
+  float samples[256];
+  tj_signal_answer answer = tj_signal_new(3, 1.0f, 3.0f, edition, samples, 256);
+  if (answer.code != 0)
+    return answer.code;
+  printf("edition %u: THD %g%%\n", (unsigned)answer.signal.edition, (double)answer.signal.thd);
   return 0;
 }
 
@@ -54,14 +79,6 @@ int main(void) {
   if (print_figures(broken, 5) != 0)
     return 1;
 
-  float samples[16];
-  tj_signal_answer signal = tj_signal_new(1, 5.0f, 2.0f, samples, 16);
-  if (signal.code != 0)
-    return 1;
-  signal = tj_signal_set_duty_cycle(signal.signal, 0.25f, samples, 16);
-  printf("duty cycle %g of amplitude %g\n", (double)signal.signal.figures.duty_cycle_pos, (double)signal.signal.amplitude);
-
-  tj_set_harmonic(signal.signal.port.voltage_harmonics, 3, (tj_reading){true, 1.5f});
-  printf("third voltage harmonic %g%%\n", (double)tj_harmonic(signal.signal.port.voltage_harmonics, 3).value);
-  return signal.code;
+  /* orders up to 16, as the Rust and older records, and up to 40; another edition is refused with 9 */
+  return print_signal() != 0 || print_thd(1) != 0 || print_thd(2) != 0;
 }

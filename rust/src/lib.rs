@@ -28,7 +28,7 @@ pub use quality::{
 pub use samples::{
     add_dc_offset, add_signals, dft_magnitude_spectrum, dft_magnitude_spectrum_in, generate_samples, scale, Wave,
 };
-pub use signal::{Metrics, Settings, Signal};
+pub use signal::{Edition, Metrics, Settings, Signal};
 
 /// Why a call was refused: the numbers of document 01's table and of the requests of document 02, but for 0.
 #[derive(Clone, Copy, Debug, PartialEq, Eq)]

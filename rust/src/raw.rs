@@ -136,11 +136,19 @@ extern "C" {
     pub fn tj_harmonic(harmonics: *const Reading, n: u8) -> Reading;
     pub fn tj_set_harmonic(harmonics: *mut Reading, n: u8, value: Reading);
 
-    pub fn tj_signal_new(wave: u8, amplitude: f32, frequency: f32, samples: *mut f32, n: usize) -> SignalAnswer;
+    pub fn tj_signal_new(
+        wave: u8,
+        amplitude: f32,
+        frequency: f32,
+        edition: u8,
+        samples: *mut f32,
+        n: usize,
+    ) -> SignalAnswer;
     pub fn tj_signal_new_power_port(
         voltage: f32,
         current: f32,
         frequency: Reading,
+        edition: u8,
         samples: *mut f32,
         n: usize,
     ) -> SignalAnswer;

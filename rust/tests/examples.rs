@@ -1,4 +1,4 @@
-//! The examples of the Rust's doc comments that lie in document 01's domain, and 01's own.
+//! The examples of the Rust's doc comments that lie in document 01's domain, 01's own, and some of document 02's requests.
 //! A `Signal` of 1,000 samples, as the Rust's comments have it, is off the grid here: it is refused, and the example runs on 1,024.
 
 use tilljingle::*;
@@ -7,7 +7,7 @@ use tilljingle::*;
 fn a_thousand_samples_are_off_the_grid() {
     let mut samples = [3.0; 1000];
     assert!(matches!(
-        Signal::new(Wave::DC, 5.0, 0.0, &mut samples),
+        Signal::new(Wave::DC, 5.0, 0.0, Edition::First, &mut samples),
         Err(Refusal::OffGrid)
     ));
     assert_eq!(samples, [3.0; 1000]);
@@ -16,7 +16,7 @@ fn a_thousand_samples_are_off_the_grid() {
 #[test]
 fn direct_current() {
     let mut samples = [0.0; 1024];
-    let signal = Signal::new(Wave::DC, 5.0, 0.0, &mut samples).unwrap();
+    let signal = Signal::new(Wave::DC, 5.0, 0.0, Edition::First, &mut samples).unwrap();
     let metrics = signal.get_metrics().figures;
     assert_eq!(metrics.max, 5.0);
     assert_eq!(metrics.min, 5.0);
@@ -28,7 +28,7 @@ fn direct_current() {
 #[test]
 fn pulses_of_a_quarter() {
     let mut samples = [0.0; 1024];
-    let mut signal = Signal::new(Wave::PWM, 5.0, 1000.0, &mut samples).unwrap();
+    let mut signal = Signal::new(Wave::PWM, 5.0, 1000.0, Edition::First, &mut samples).unwrap();
     assert_eq!(signal.settings().wave(), Wave::PWM);
     signal.set_duty_cycle(0.25).unwrap();
     let metrics = signal.get_metrics().figures;
@@ -97,7 +97,7 @@ fn the_report() {
 #[test]
 fn port_readings() {
     let mut samples = [0.0; 16];
-    let mut signal = Signal::new_power_port(230.0, 10.0, Some(50.0), &mut samples).unwrap();
+    let mut signal = Signal::new_power_port(230.0, 10.0, Some(50.0), Edition::Second, &mut samples).unwrap();
     assert_eq!(signal.port().instantaneous_power(), 2300.0);
     assert_eq!(Option::<f32>::from(signal.port().frequency), Some(50.0));
     signal.port_mut().set_voltage_harmonic(3, Some(1.5));
@@ -147,7 +147,7 @@ fn samples_that_are_no_numbers_are_counted() {
 #[test]
 fn a_signal_counts_from_call_to_call() {
     let mut samples = [0.0; 16];
-    let mut signal = Signal::new(Wave::PWM, f32::INFINITY, 4.0, &mut samples).unwrap();
+    let mut signal = Signal::new(Wave::PWM, f32::INFINITY, 4.0, Edition::First, &mut samples).unwrap();
     let counts = |signal: &Signal| {
         let figures = signal.get_metrics().figures;
         (figures.not_numbers, figures.infinite)
@@ -158,6 +158,101 @@ fn a_signal_counts_from_call_to_call() {
     signal.reset_waveform().unwrap();
     assert_eq!(counts(&signal), (0, 0));
     // at frequency 0 a triangular wave is NaN throughout
-    let blown = Signal::new(Wave::Triangular, 1.0, 0.0, &mut samples).unwrap();
+    let blown = Signal::new(Wave::Triangular, 1.0, 0.0, Edition::Second, &mut samples).unwrap();
     assert_eq!(counts(&blown), (16, 0));
+}
+
+/// One sample of n / 2 and else 0, which makes every bin 1: THD is 100 times the root of how many orders lie below half, and none above the edition's.
+fn pulse(frequency: f32, edition: Edition, samples: &mut [f32]) -> Metrics {
+    let n = samples.len() as f32;
+    let mut signal = Signal::new(Wave::PWM, n / 2.0, frequency, edition, samples).unwrap();
+    signal.set_duty_cycle(0.5 / n).unwrap();
+    signal.get_metrics()
+}
+
+#[test]
+fn orders_up_to_16_and_up_to_40() {
+    // of these odd bins: how many orders from 2 on have each edition
+    for (n, frequency, first, second) in [
+        (64, 1.0, 15, 30),
+        (64, 3.0, 9, 9),
+        (256, 3.0, 15, 39),
+        (1024, 13.0, 15, 38),
+        (1024, 29.0, 15, 16),
+        (1024, 31.0, 15, 15),
+        (4096, 1.0, 15, 39),
+    ] {
+        let mut samples = vec![0.0; n];
+        let thd = |orders: u16| f32::from(orders).sqrt() * 100.0;
+        let metrics = pulse(frequency, Edition::First, &mut samples);
+        assert_eq!((metrics.edition, metrics.thd), (1, thd(first)));
+        let metrics = pulse(frequency, Edition::Second, &mut samples);
+        assert_eq!((metrics.edition, metrics.thd), (2, thd(second)));
+    }
+}
+
+#[test]
+fn the_edition_stays() {
+    for edition in [Edition::First, Edition::Second] {
+        let mut samples = [0.0; 64];
+        let mut signal = Signal::new(Wave::Sawtooth, 1.0, 1.0, edition, &mut samples).unwrap();
+        let stays = |signal: &Signal| {
+            assert_eq!(signal.settings().edition(), Some(edition));
+            assert_eq!(signal.get_metrics().edition, edition as u8);
+        };
+        stays(&signal);
+        signal.set_phase(90.0).unwrap();
+        stays(&signal);
+        signal.set_duty_cycle(0.25).unwrap();
+        stays(&signal);
+        signal.port_mut().reset_power_params();
+        signal.reset_waveform().unwrap();
+        stays(&signal);
+        signal.set_phase(0.0).unwrap();
+        stays(&signal);
+        stays(&Signal::new_power_port(230.0, 10.0, None, edition, &mut samples).unwrap());
+    }
+}
+
+#[test]
+fn an_edition_that_is_neither() {
+    let mut samples = [3.0; 65_537];
+    let place = samples.as_mut_ptr();
+    let absent = Reading::from(None);
+    // 9 comes before 3 and 4
+    for (edition, n) in [(0, 8), (3, 65_537), (255, 7), (3, 0)] {
+        let held = Settings {
+            edition,
+            thd: 7.0,
+            ..Settings::default()
+        };
+        let (new, port, phase, duty, reset) = unsafe {
+            (
+                raw::tj_signal_new(1, 2.0, 1.0, edition, place, n),
+                raw::tj_signal_new_power_port(2.0, 1.0, absent, edition, place, n),
+                raw::tj_signal_set_phase(held, 90.0, place, n),
+                raw::tj_signal_set_duty_cycle(held, 0.25, place, n),
+                raw::tj_signal_reset_waveform(held, place, 0),
+            )
+        };
+        for (answer, signal) in [
+            (new, Settings::default()),
+            (port, Settings::default()),
+            (phase, held),
+            (duty, held),
+        ] {
+            assert_eq!((answer.code, answer.signal), (Refusal::UnknownEdition as u8, signal));
+        }
+        assert_eq!((reset.code, reset.signal.edition, reset.signal.thd), (0, edition, 0.0));
+        assert_eq!(held.edition(), None);
+    }
+    assert!(samples.iter().all(|&x| x == 3.0));
+}
+
+#[test]
+fn the_edition_stands_behind_the_wave() {
+    let settings = Settings::default();
+    let at = |field: &u8| field as *const u8 as usize - &settings as *const Settings as usize;
+    assert_eq!((at(&settings.wave), at(&settings.edition)), (0, 1));
+    assert_eq!(std::mem::size_of::<Settings>(), 528);
 }

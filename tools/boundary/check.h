@@ -46,5 +46,6 @@ void check_figures(void);
 void check_port(void);
 void check_harmonics(void);
 void check_signal(void);
+void check_editions(void);
 void check_capture(void);
 #endif

@@ -99,6 +99,7 @@ AT(tj_port, temperature, 404);
 
 LONG(tj_signal, 528);
 AT(tj_signal, wave, 0);
+AT(tj_signal, edition, 1);
 AT(tj_signal, amplitude, 4);
 AT(tj_signal, phase, 8);
 AT(tj_signal, frequency, 12);

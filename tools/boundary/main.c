@@ -28,6 +28,7 @@ int main(void) {
   check_port();
   check_harmonics();
   check_signal();
+  check_editions();
   check_capture();
   printf("boundary: %u checks, %u wrong\n", checks, wrong);
   return wrong != 0;

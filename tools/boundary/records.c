@@ -83,6 +83,7 @@ tj_port own_port(void) {
 tj_signal own_signal(void) {
   tj_signal own;
   own.wave = 2;
+  own.edition = 1;
   own.amplitude = 401;
   own.phase = 402;
   own.frequency = 403;
@@ -157,6 +158,7 @@ void port_is(tj_port got, tj_port wanted) {
 
 void signal_is(tj_signal got, tj_signal wanted) {
   IS(got.wave, wanted.wave);
+  IS(got.edition, wanted.edition);
   IS(got.amplitude, wanted.amplitude);
   IS(got.phase, wanted.phase);
   IS(got.frequency, wanted.frequency);

@@ -10,9 +10,10 @@ enum { N = 16 };
 static float samples[N];
 
 /* what new makes of a port before its readings: nothing but is_enabled */
-static tj_signal made(uint8_t wave, float amplitude, float frequency) {
+static tj_signal made(uint8_t wave, float amplitude, float frequency, uint8_t edition) {
   tj_signal signal = zero_signal;
   signal.wave = wave;
+  signal.edition = edition;
   signal.amplitude = amplitude;
   signal.frequency = frequency;
   signal.duty_cycle = 0.5f;
@@ -35,7 +36,7 @@ static void counts_are(tj_signal_answer got, uint32_t not_numbers, uint32_t infi
 static void check_new(void) {
   static const float pulses[] = {8, 8, 0, 0, 8, 8, 0, 0, 8, 8, 0, 0, 8, 8, 0, 0};
   const float root = 5.656854249492381f;
-  tj_signal wanted = made(1, 8, 4);
+  tj_signal wanted = made(1, 8, 4, 1);
   wanted.figures.peak_to_peak = wanted.figures.max = 8;
   wanted.figures.positive_peak = wanted.figures.negative_peak = wanted.figures.average = wanted.figures.ac_rms = 4;
   wanted.figures.dc_rms = root;
@@ -51,22 +52,22 @@ static void check_new(void) {
   wanted.port.voltage_crest_factor = reading(true, 8 / root);
   wanted.port.voltage_thd = reading(true, 0);
   called("tj_signal_new");
-  answer_is(tj_signal_new(1, 8, 4, samples, N), 0, wanted);
+  answer_is(tj_signal_new(1, 8, 4, 1, samples, N), 0, wanted);
   ARE(samples, pulses);
 }
 
 /* the frequency reading: absent for DC, whatever was given, and there for every other wave */
 static void check_new_frequency(void) {
-  tj_signal wanted = made(0, 3, 7);
+  tj_signal wanted = made(0, 3, 7, 2);
   wanted.figures.max = wanted.figures.min = wanted.figures.average = wanted.figures.dc_rms = 3;
   wanted.figures.duty_cycle_pos = wanted.figures.crest_factor = wanted.figures.form_factor = 1;
   wanted.port.voltage = 3;
   wanted.port.voltage_crest_factor = reading(true, 1);
   wanted.port.voltage_thd = reading(true, 0);
   called("tj_signal_new");
-  answer_is(tj_signal_new(0, 3, 7, samples, 4), 0, wanted);
+  answer_is(tj_signal_new(0, 3, 7, 2, samples, 4), 0, wanted);
   for (uint8_t wave = 1; wave < 4; wave++) {
-    tj_signal_answer got = tj_signal_new(wave, 8, 4, samples, N);
+    tj_signal_answer got = tj_signal_new(wave, 8, 4, 1, samples, N);
     IS(got.code, 0);
     IS(got.signal.wave, wave);
     reading_is(got.signal.port.frequency, reading(true, 4));
@@ -76,7 +77,7 @@ static void check_new_frequency(void) {
 /* constant 3: figures of a wave that never moves */
 static void check_new_power_port(void) {
   static const float constant[] = {3, 3, 3, 3};
-  tj_signal wanted = made(0, 3, 0);
+  tj_signal wanted = made(0, 3, 0, 2);
   wanted.figures.max = wanted.figures.min = wanted.figures.average = wanted.figures.dc_rms = 3;
   wanted.figures.duty_cycle_pos = wanted.figures.crest_factor = wanted.figures.form_factor = 1;
   wanted.port.voltage = 3;
@@ -90,10 +91,10 @@ static void check_new_power_port(void) {
   wanted.port.voltage_crest_factor = reading(true, 1);
   wanted.port.voltage_thd = reading(true, 0);
   called("tj_signal_new_power_port");
-  answer_is(tj_signal_new_power_port(3, -5, reading(true, 7), samples, 4), 0, wanted);
+  answer_is(tj_signal_new_power_port(3, -5, reading(true, 7), 2, samples, 4), 0, wanted);
   ARE(samples, constant);
   wanted.port.frequency = reading(false, 0);
-  answer_is(tj_signal_new_power_port(3, -5, reading(false, 7), samples, 4), 0, wanted);
+  answer_is(tj_signal_new_power_port(3, -5, reading(false, 7), 2, samples, 4), 0, wanted);
 }
 
 /* a quarter of the period of 1 s ahead; the port keeps what it has, but for voltage (the root of 24), crest factor and THD */
@@ -182,7 +183,7 @@ static void check_counts(void) {
     float value;
   } minus_infinity = {0xFF800000};
   called("the counts of a signal");
-  tj_signal_answer answer = tj_signal_new(1, minus_infinity.value, 4, samples, N);
+  tj_signal_answer answer = tj_signal_new(1, minus_infinity.value, 4, 1, samples, N);
   counts_are(answer, 0, 8);
   answer = tj_signal_set_duty_cycle(answer.signal, 0.25f, samples, N);
   counts_are(answer, 0, 4);
@@ -192,13 +193,13 @@ static void check_counts(void) {
   answer = tj_signal_reset_waveform(answer.signal, samples, N);
   counts_are(answer, 0, 0);
 
-  answer = tj_signal_new(2, 8, 0, samples, N);
+  answer = tj_signal_new(2, 8, 0, 2, samples, N);
   counts_are(answer, N, 0);
   counts_are(tj_signal_reset_waveform(answer.signal, samples, 0), 0, 0);
   counts_are(tj_signal_set_phase(own_signal(), 90, samples, 0), 0xFFFFFFFF, 7);
   counts_are(tj_signal_set_duty_cycle(own_signal(), 0.25f, samples, 0), 0xFFFFFFFF, 7);
-  counts_are(tj_signal_new(2, 8, 0, samples, 0), 0, 0);
-  counts_are(tj_signal_new_power_port(minus_infinity.value, 1, reading(false, 0), samples, 4), 0, 4);
+  counts_are(tj_signal_new(2, 8, 0, 2, samples, 0), 0, 0);
+  counts_are(tj_signal_new_power_port(minus_infinity.value, 1, reading(false, 0), 1, samples, 4), 0, 4);
 }
 
 /* no length but 0, 1 and powers of two up to 4,096, and none above 65,536: a new signal is the zero state, another comes back as it was */
@@ -211,9 +212,9 @@ static void check_refusals(void) {
     uint8_t code = refused[i].code;
     size_t n = refused[i].n;
     called("a refused tj_signal_new");
-    answer_is(tj_signal_new(1, 8, 4, many, n), code, zero_signal);
+    answer_is(tj_signal_new(1, 8, 4, 1, many, n), code, zero_signal);
     called("a refused tj_signal_new_power_port");
-    answer_is(tj_signal_new_power_port(3, -5, reading(true, 7), many, n), code, zero_signal);
+    answer_is(tj_signal_new_power_port(3, -5, reading(true, 7), 2, many, n), code, zero_signal);
     called("a refused tj_signal_set_phase");
     answer_is(tj_signal_set_phase(own_signal(), 90, many, n), code, own_signal());
     called("a refused tj_signal_set_duty_cycle");

@@ -12,6 +12,7 @@ use signal::State;
 #[repr(C)]
 pub struct TjSignal {
     pub wave: u8,
+    pub edition: u8,
     pub amplitude: f32,
     pub phase: f32,
     pub frequency: f32,
@@ -46,6 +47,7 @@ pub fn state_in(s: TjSignal) -> State
     let metrics = Metrics {
         figures: figures,
         thd: s.thd,
+        edition: s.edition,
     };
     State {
         shape: shape,
@@ -67,6 +69,7 @@ pub fn state_out(s: State) -> TjSignal
     let figures = metrics.figures;
     TjSignal {
         wave: number,
+        edition: metrics.edition,
         amplitude: shape.amplitude,
         phase: shape.phase,
         frequency: shape.frequency,

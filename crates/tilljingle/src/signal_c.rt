@@ -2,7 +2,8 @@
 ghost use mathlib.Core.Path.{_≡_};
 ghost use Rattle.answers.specs.Left.{left, answeredAs};
 ghost use Rattle.generator.specs.Wave.{waveOf};
-ghost use Rattle.signal.specs.Calls.{highest, newOf, newPortOf, phaseSet, dutySet, resetOf};
+ghost use Rattle.signal.specs.Calls.{resetOf};
+ghost use Rattle.signal.specs.Editions.{newBy, newPortBy, phaseBy, dutyBy};
 ghost use Rattle.crossing.specs.PortCrossing.{readingIn};
 ghost use Rattle.crossing.specs.SignalCrossing.{stateIn, codedSignal};
 use crossing::readings;
@@ -17,12 +18,13 @@ pub extern "C" fn tj_signal_new(
     wave: u8,
     amplitude: f32,
     frequency: f32,
+    edition: u8,
     samples: &mut [f32],
 ) -> CodedSignal
-    ensures { λ r. ⌜ left r (now (samples .exit)) ≡ answeredAs codedSignal (newOf highest (waveOf wave) amplitude frequency (now (samples .entry))) ⌝ }
+    ensures { λ r. ⌜ left r (now (samples .exit)) ≡ answeredAs codedSignal (newBy (waveOf wave) amplitude frequency edition (now (samples .entry))) ⌝ }
 {
     let kind = generator::wave_of(wave);
-    coded(signal::new(kind, amplitude, frequency, samples))
+    coded(signal::new(kind, amplitude, frequency, edition, samples))
 }
 
 #[no_mangle]
@@ -30,12 +32,13 @@ pub extern "C" fn tj_signal_new_power_port(
     voltage: f32,
     current: f32,
     frequency: TjReading,
+    edition: u8,
     samples: &mut [f32],
 ) -> CodedSignal
-    ensures { λ r. ⌜ left r (now (samples .exit)) ≡ answeredAs codedSignal (newPortOf highest voltage current (readingIn frequency) (now (samples .entry))) ⌝ }
+    ensures { λ r. ⌜ left r (now (samples .exit)) ≡ answeredAs codedSignal (newPortBy voltage current (readingIn frequency) edition (now (samples .entry))) ⌝ }
 {
     let reading = readings::reading_in(frequency);
-    coded(signal::new_power_port(voltage, current, reading, samples))
+    coded(signal::new_power_port(voltage, current, reading, edition, samples))
 }
 
 #[no_mangle]
@@ -44,7 +47,7 @@ pub extern "C" fn tj_signal_set_phase(
     phase: f32,
     samples: &mut [f32],
 ) -> CodedSignal
-    ensures { λ r. ⌜ left r (now (samples .exit)) ≡ answeredAs codedSignal (phaseSet highest (stateIn signal) phase (now (samples .entry))) ⌝ }
+    ensures { λ r. ⌜ left r (now (samples .exit)) ≡ answeredAs codedSignal (phaseBy (stateIn signal) phase (now (samples .entry))) ⌝ }
 {
     let state = state_in(signal);
     coded(signal::set_phase(state, phase, samples))
@@ -56,7 +59,7 @@ pub extern "C" fn tj_signal_set_duty_cycle(
     duty_cycle: f32,
     samples: &mut [f32],
 ) -> CodedSignal
-    ensures { λ r. ⌜ left r (now (samples .exit)) ≡ answeredAs codedSignal (dutySet highest (stateIn signal) «duty_cycle» (now (samples .entry))) ⌝ }
+    ensures { λ r. ⌜ left r (now (samples .exit)) ≡ answeredAs codedSignal (dutyBy (stateIn signal) «duty_cycle» (now (samples .entry))) ⌝ }
 {
     let state = state_in(signal);
     coded(signal::set_duty_cycle(state, duty_cycle, samples))
