@@ -12,12 +12,21 @@ command -v cargo >/dev/null || install cargo rustc
 
 ln -sfn "$(dirname "$(dpkg -L librust-libm-dev | grep '/Cargo.toml$' | head -n 1)")" libm
 mkdir -p gen
-cat ../docs/src/src--src--signal--signal.rs.txt src/tail.rs > gen/signal.new
+text=../docs/src/src--src--signal--signal.rs.txt
+# step 10 of calculate_metrics as far as its THD, with the highest order, at most 40, as a parameter
+orders() {
+  echo "impl<'a> Signal<'a> {"
+  echo "    pub fn tail_thd(&mut self, highest: usize) {"
+  echo "        let (n, sample_rate) = (self.num_samples as usize, self.num_samples as f32);"
+  sed -n '/----- 10\. DFT-based/,/self\.thd = /p' "$text" | sed -e 's/ 16\.min(/ highest.min(/' -e 's/\[0\.0f32; 17\]/[0.0f32; 41]/'
+  echo "}}}}}"
+}
+{ cat "$text" src/tail.rs; orders; } > gen/signal.new
 cmp -s gen/signal.new gen/signal.rs || cp gen/signal.new gen/signal.rs
 rm gen/signal.new
 
 # the three decibel functions with the logarithm cut off: what they hand to it, as kind and ratio; and THD with the library's root in the place of libm's
-published() { sed -n "/^pub fn compute_$1(/,/^}/p" ../docs/src/src--src--signal--signal.rs.txt; }
+published() { sed -n "/^pub fn compute_$1(/,/^}/p" "$text"; }
 for name in snr sinad sfdr; do published $name; done |
   sed -e 's/^pub fn compute_/pub fn cut_/' -e 's/-> f32 {/-> (u8, f64) {/' -e 's/return 0\.0;/return (2, 0.0);/' \
     -e 's/(10\.0 \* libm::log10(\(.*\))) as f32/(0, \1)/' -e 's/20\.0 \* libm::log10f(\(.*\))/(0, (\1) as f64)/' \

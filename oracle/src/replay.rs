@@ -1,10 +1,12 @@
 //! Writes what the programs crates/replay_* replay: a sample of inputs, the same in every run, and what the published Rust answers to each; and such lines
-//! with one field of the answer wrong. How a line is read stands in crates/replaying/src/lib.rt.
+//! with one field of the answer wrong, of editions one or more. How a line is read stands in crates/replaying/src/lib.rt.
 
 mod captures;
+mod editions;
 mod limits;
 mod long;
 mod ports;
+mod run;
 mod signals;
 mod slices;
 mod wrong;
@@ -76,6 +78,8 @@ pub struct Lines {
     random: Random,
     item: u32,
     cases: Vec<Case>,
+    /// Lines with a wrong answer, beside those that `wrong` makes of the others.
+    wrong: Vec<Case>,
 }
 
 /// What one call is given: numbers, two slices, and a slice that it may write to. Some of the numbers may be what stands somewhere afterwards.
@@ -134,7 +138,7 @@ impl Given {
 }
 
 /// What it answers: a number of 01's table, an f64, f32; the counts of a time record; and the slice afterwards.
-#[derive(Default)]
+#[derive(Default, Clone)]
 pub struct Said {
     code: u32,
     wide: f64,
@@ -211,6 +215,18 @@ fn lengths(given: &Given) -> [usize; 3] {
 
 impl Lines {
     fn line(&mut self, which: u32, given: &Given, said: &Said) {
+        let case = self.case(which, given, said);
+        self.cases.push(case);
+    }
+
+    /// A line that says what is wrong of a call that says what is right.
+    fn wrong_line(&mut self, which: u32, given: &Given, right: &Said, wrong: &Said) {
+        let case = self.case(which, given, wrong);
+        assert_ne!(case.words, self.case(which, given, right).words);
+        self.wrong.push(case);
+    }
+
+    fn case(&self, which: u32, given: &Given, said: &Said) -> Case {
         let given = &given.counted(said.counts);
         let mut words = vec![0, self.item, which, given.words.len() as u32];
         words.extend(&given.words);
@@ -231,14 +247,14 @@ impl Lines {
         words.extend(&out);
         fields.extend(given.answers.iter().map(|(k, field)| (4 + k, *field)));
         words[0] = words.len() as u32;
-        self.cases.push(Case {
+        Case {
             words,
             fields,
             lent: out.len() + given.answers.len(),
             long: lengths(given).iter().any(|n| *n > ROOM),
             code: said.code % 16,
             key: self.key(which, given, said),
-        });
+        }
     }
 
     /// What tells one kind of case from another: the item, the call, which quotient it answers, and how its lists stand in the line.
@@ -301,10 +317,12 @@ fn write_program(program: &str, files: &[File]) -> [usize; 2] {
             random: Random::new(*seed),
             item: *item,
             cases: Vec::new(),
+            wrong: Vec::new(),
         };
         make(&mut lines);
         let mut cases = lines.cases;
         spoiled.extend(wrong::wrong(&cases));
+        spoiled.extend(lines.wrong);
         cases.extend(wrong::alike(&cases));
         right += cases.len();
         write_file(program, name, &cases);

@@ -21,6 +21,24 @@ impl<'a> Signal<'a> {
         signal
     }
 
+    /// 01's zero state beside these samples, which stay: no reading, no flag, no duty cycle.
+    pub fn tail_zero(samples: &'a mut [f32]) -> Signal<'a> {
+        let mut signal = Signal::tail_over(SignalType::DC, 0.0, 0.0, &SignalMetrics::tail_from(&[0.0; 24]), samples);
+        signal.reset_power_params();
+        signal.set_state(false, false);
+        signal.duty_cycle = 0.0;
+        signal
+    }
+
+    /// The same signal beside other samples, which stay.
+    pub fn tail_beside(self, samples: &'a mut [f32]) -> Signal<'a> {
+        Signal {
+            num_samples: samples.len() as u32,
+            samples,
+            ..self
+        }
+    }
+
     /// Puts these figures in place of those that the signal keeps.
     pub fn tail_set_metrics(&mut self, figures: &SignalMetrics) {
         self.peak_to_peak = figures.peak_to_peak;

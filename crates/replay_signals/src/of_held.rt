@@ -1,4 +1,5 @@
-// The sequences on a signal that keeps its samples: three make it of a wave, an amplitude and a frequency, and one of a port's readings.
+// The sequences on a signal that keeps its samples: three make it of a wave, an amplitude and a frequency, and one of a port's readings;
+// then comes the edition.
 use crate::of_signal;
 use replaying::read;
 use replaying::records;
@@ -10,11 +11,12 @@ fn shaped(line: &[u8], out: &mut [f32]) -> Said {
         generator::wave_of(read::byte(line, 4)),
         read::float(line, 5),
         read::float(line, 6),
-        read::float(line, 7),
+        read::byte(line, 7),
         read::float(line, 8),
+        read::float(line, 9),
         out,
     );
-    of_signal::answered(line, 9, a)
+    of_signal::answered(line, 10, a)
 }
 
 fn emptied(line: &[u8], out: &mut [f32]) -> Said {
@@ -22,10 +24,11 @@ fn emptied(line: &[u8], out: &mut [f32]) -> Said {
         generator::wave_of(read::byte(line, 4)),
         read::float(line, 5),
         read::float(line, 6),
-        read::float(line, 7),
+        read::byte(line, 7),
+        read::float(line, 8),
         out,
     );
-    of_signal::answered(line, 8, a)
+    of_signal::answered(line, 9, a)
 }
 
 fn measured(line: &[u8], out: &mut [f32]) -> Said {
@@ -33,13 +36,14 @@ fn measured(line: &[u8], out: &mut [f32]) -> Said {
         generator::wave_of(read::byte(line, 4)),
         read::float(line, 5),
         read::float(line, 6),
-        read::float(line, 7),
+        read::byte(line, 7),
+        read::float(line, 8),
         out,
     );
     let outcome = answer.outcome;
     let metrics = answer.metrics;
     let figures = metrics.figures;
-    records::counted(line, 8, outcome, figures, of_signal::metrics(metrics))
+    records::counted(line, 9, outcome, figures, of_signal::metrics(metrics))
 }
 
 fn powered(line: &[u8], out: &mut [f32]) -> Said {
@@ -47,7 +51,8 @@ fn powered(line: &[u8], out: &mut [f32]) -> Said {
         read::float(line, 4),
         read::float(line, 5),
         records::reading_at(line, 6),
-        read::float(line, 8),
+        read::byte(line, 8),
+        read::float(line, 9),
         out,
     ))
 }

@@ -1,5 +1,6 @@
-// A signal by value: made by `new` or `new_power_port`, then up to three settings, each a number and a value. Every call is on the same samples, but where
-// the line says 3: there `new` was on eight samples of its own, so that settings that are refused find a state.
+// A signal by value: made by `new` or `new_power_port` in an edition, then up to three settings, each a number and a value. Every call is on the same samples,
+// but where the line says 3: there `new` was on eight samples of its own, so that settings that are refused find a state. Before the settings the state may be
+// given another edition, as a caller can.
 use generator::Shape;
 use port::Port;
 use port::Reading;
@@ -17,6 +18,7 @@ fn made_new(line: &[u8], out: &mut [f32]) -> Answer {
         generator::wave_of(read::byte(line, 4)),
         read::float(line, 5),
         read::float(line, 6),
+        read::byte(line, 8),
         out,
     )
 }
@@ -26,6 +28,7 @@ fn made_port(line: &[u8], out: &mut [f32]) -> Answer {
         read::float(line, 4),
         read::float(line, 5),
         records::reading_at(line, 6),
+        read::byte(line, 8),
         out,
     )
 }
@@ -36,6 +39,19 @@ fn made(line: &[u8], which: u32, out: &mut [f32]) -> Answer {
         2 => made_port(line, out),
         _ => made_new(line, &mut [0.0f32; 8]),
     }
+}
+
+// With the edition at the word 9, where that is one byte's.
+fn with_edition(line: &[u8], made: Answer) -> Answer {
+    let mut a = made;
+    if read::word(line, 9) < 256 {
+        let mut state = a.state;
+        let mut metrics = state.metrics;
+        metrics.edition = read::byte(line, 9);
+        state.metrics = metrics;
+        a.state = state;
+    }
+    a
 }
 
 fn set(line: &[u8], i: usize, earlier: Answer, out: &mut [f32]) -> Answer {
@@ -51,9 +67,9 @@ fn set(line: &[u8], i: usize, earlier: Answer, out: &mut [f32]) -> Answer {
 
 // The three settings.
 fn set_up(line: &[u8], made: Answer, out: &mut [f32]) -> Answer {
-    let a = set(line, 8, made, out);
-    let a = set(line, 10, a, out);
-    set(line, 12, a, out)
+    let a = set(line, 10, with_edition(line, made), out);
+    let a = set(line, 12, a, out);
+    set(line, 14, a, out)
 }
 
 // ---- what is seen of it
@@ -66,33 +82,34 @@ fn number_of(r: Reading) -> f32 {
     }
 }
 
-// The figures and the THD.
+// The figures, the THD and its edition.
 pub fn metrics(m: Metrics) -> [f32; ROOM] {
     let figures = m.figures;
     let mut xs = records::figures(figures);
     xs[19] = m.thd;
+    xs[20] = m.edition as f32;
     xs
 }
 
 fn with_shape(list: [f32; ROOM], shape: Shape) -> [f32; ROOM] {
     let mut xs = list;
-    xs[20] = shape.amplitude;
-    xs[21] = shape.phase;
-    xs[22] = shape.frequency;
-    xs[23] = shape.duty_cycle;
+    xs[21] = shape.amplitude;
+    xs[22] = shape.phase;
+    xs[23] = shape.frequency;
+    xs[24] = shape.duty_cycle;
     xs
 }
 
 // What of the port these calls set.
 fn with_port(list: [f32; ROOM], port: Port) -> [f32; ROOM] {
     let mut xs = list;
-    xs[24] = port.voltage();
-    xs[25] = port.current();
-    xs[26] = port.active_power();
-    xs[27] = number_of(port.voltage_crest_factor());
-    xs[28] = number_of(port.voltage_thd());
-    xs[29] = number_of(port.power_factor());
-    xs[30] = number_of(port.apparent_power());
+    xs[25] = port.voltage();
+    xs[26] = port.current();
+    xs[27] = port.active_power();
+    xs[28] = number_of(port.voltage_crest_factor());
+    xs[29] = number_of(port.voltage_thd());
+    xs[30] = number_of(port.power_factor());
+    xs[31] = number_of(port.apparent_power());
     xs
 }
 
@@ -114,5 +131,5 @@ pub fn answered(line: &[u8], i: usize, a: Answer) -> Said {
 }
 
 pub fn call(line: &[u8], which: u32, out: &mut [f32]) -> Said {
-    answered(line, 14, set_up(line, made(line, which, out), out))
+    answered(line, 16, set_up(line, made(line, which, out), out))
 }

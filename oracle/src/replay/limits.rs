@@ -1,11 +1,13 @@
-//! The limit of 65,536: slices of that many places and of one more. What is refused with 3, and before it what would be refused otherwise, comes from 01.
+//! The limit of 65,536: slices of that many places and of one more; of signals also those past a line's room, and the editions. What is refused, and in which
+//! order, comes from 01 and 02.
 
 use super::captures::{ended, pairs, power};
-use super::ports::{reading, record};
-use super::signals::{nothing_said, said, with_thd};
+use super::ports::record;
+use super::run::Maker;
+use super::signals::Script;
 use super::slices::SCRATCH;
 use super::wrong::{Field, PAIR, WHOLE};
-use super::{word, words, Given, Lines, Said, FUNDAMENTAL};
+use super::{editions, long, word, words, Given, Lines, Said, FUNDAMENTAL};
 use crate::generator::wave_of;
 use crate::lines::{self, LONGEST};
 use crate::quality::cut;
@@ -23,7 +25,7 @@ fn limited(lengths: &[usize], code: u32) -> u32 {
 }
 
 /// So many places with one number in each.
-fn level(n: usize) -> Vec<f32> {
+pub fn level(n: usize) -> Vec<f32> {
     vec![1.5; n]
 }
 
@@ -160,17 +162,18 @@ fn qualities(lines: &mut Lines, n: usize) {
     }
 }
 
-/// Signals on lengths that are refused, when they are made and when they are set.
+/// Signals on lengths past a line's room, and on those that are refused, when they are made and when they are set.
 pub fn signals(lines: &mut Lines) {
+    long::signals(lines);
+    let settings = |settings: [u32; 3]| [0, 1, 2].map(|k| (settings[k], [45.0, 0.75, 0.5][k]));
     for n in LENGTHS {
-        let power_port = [&[word(&2.0), word(&3.0)][..], &reading(Some(50.0))].concat();
-        for (which, made) in [(1, vec![1, word(&2.0), word(&3.0), 0]), (2, power_port)] {
-            refused(lines, which, n, &made, &[0, 0, 0], nothing_said());
+        for maker in [Maker::Wave(1, 2.0, 3.0), Maker::Port(2.0, 3.0, Some(50.0))] {
+            Script::new(maker, 1, settings([0, 0, 0])).line(lines, &level(n));
         }
     }
     // `new` is on eight samples here, and what is set on n; pulses of infinity leave a count of four
     for n in [3, 12, LONGEST, LONGEST + 1] {
-        for (wave, amplitude, settings) in [
+        for (wave, amplitude, set) in [
             (2, 2.0, [1, 0, 0]),
             (2, 2.0, [2, 0, 0]),
             (2, 2.0, [3, 0, 0]),
@@ -178,13 +181,14 @@ pub fn signals(lines: &mut Lines) {
             (1, f32::INFINITY, [3, 2, 1]),
             (2, f32::NAN, [3, 2, 1]),
         ] {
-            let mut eight = [0.0; 8];
-            let mut signal = Signal::new(wave_of(wave), amplitude, 1.0, &mut eight);
-            with_thd(&mut signal, 0.0);
-            let made = [wave as u32, word(&amplitude), word(&1.0), 0];
-            refused(lines, 3, n, &made, &settings, said(&signal));
+            Script {
+                apart: true,
+                ..Script::new(Maker::Wave(wave, amplitude, 1.0), 1, settings(set))
+            }
+            .line(lines, &level(n));
         }
     }
+    editions::long(lines);
 }
 
 /// The time figures, whose earlier record comes back.
@@ -195,22 +199,6 @@ pub fn figures(lines: &mut Lines) {
             record(lines, 2, 2.0, 3.0, &earlier, vec![x; n]);
         }
     }
-}
-
-/// A signal made so, and three settings, on n samples that are refused: what it says.
-fn refused(lines: &mut Lines, which: u32, n: usize, made: &[u32], settings: &[u32; 3], said: Said) {
-    let values = [45.0, 0.75, 0.5];
-    let settings = settings
-        .iter()
-        .zip(&values)
-        .flat_map(|(setting, x)| [*setting, word(x)]);
-    let words = made.iter().copied().chain(settings).collect();
-    let said = Said {
-        code: limited(&[n], 4),
-        out: level(n),
-        ..said
-    };
-    lines.line(which, &Given::into(words, level(n)), &said);
 }
 
 // ---------------------------------------------------------------------------- captures

@@ -1,13 +1,11 @@
 //! Lists of more places than a line has words for, made by a rule from one word and compared by a sum: as crates/replaying/src/made.rt has them.
 
-use super::ports::reading;
-use super::signals::{answered, refused, set_again, with_thd};
+use super::run::Maker;
+use super::signals::{with_values, Script};
 use super::slices::{power_at, quotients, sines, SCRATCH};
 use super::wrong::WHOLE;
 use super::{word, Given, Lines, Said, ROOM};
-use crate::generator::wave_of;
 use crate::lines::LONGEST;
-use crate::signal::Signal;
 use crate::signals::Quarter;
 use crate::spectrum::over_sines;
 
@@ -128,8 +126,8 @@ pub fn fundamentals(lines: &mut Lines, quarter: &Quarter) {
     }
 }
 
-/// Signals of every wave, at frequencies whose order 16 lies just below half, at half or past it, or far below; then a duty cycle, a phase and, at
-/// times, a reset. Off the grid one is enough.
+/// Signals of edition 1 and every wave, at frequencies whose order 16 lies just below half, at half or past it, or far below; then a duty cycle, a phase
+/// and, at times, a reset. Off the grid one is enough.
 pub fn signals(lines: &mut Lines) {
     for n in LENGTHS {
         let half = n as f32 / 2.0;
@@ -141,50 +139,13 @@ pub fn signals(lines: &mut Lines) {
         };
         for (k, frequency) in frequencies[..many].iter().enumerate() {
             let settings = [[0, 0, 0], [2, 1, 0], [1, 2, 3 * (k as u32 / 5)]][k % 3];
-            let out = made(n as u32, n);
-            made_signal(lines, out.clone(), (3, 1.5, *frequency), settings);
-            made_signal(lines, out, (k as u8 % 3, 1.5, *frequency), [2, 0, settings[1]]);
+            for (wave, settings) in [(3, settings), (k as u8 % 3, [2, 0, settings[1]])] {
+                let maker = Maker::Wave(wave, 1.5, *frequency);
+                Script::new(maker, 1, with_values(settings)).line(lines, &made(n as u32, n));
+            }
         }
     }
     for n in [64, 4096, 4097] {
-        made_port(lines, n);
+        Script::new(Maker::Port(2.5, -3.0, Some(50.0)), 1, [(0, 0.0); 3]).line(lines, &made(n as u32, n));
     }
-}
-
-/// A signal of a wave, an amplitude and a frequency, and three settings.
-pub fn made_signal(lines: &mut Lines, out: Vec<f32>, shape: (u8, f32, f32), settings: [u32; 3]) {
-    let (wave, amplitude, frequency) = shape;
-    let value = |setting| if setting == 1 { 100.0 } else { 0.3 };
-    let mut words = vec![wave as u32, word(&amplitude), word(&frequency), 0];
-    words.extend(settings.iter().flat_map(|setting| [*setting, word(&value(*setting))]));
-    let mut said = refused(&out);
-    if on_grid(out.len()) {
-        let mut samples = out.clone();
-        let mut signal = Signal::new(wave_of(wave), amplitude, frequency, &mut samples);
-        with_thd(&mut signal, 0.0);
-        for setting in settings {
-            match setting {
-                1 => set_again(&mut signal, |s| s.set_phase(value(1))),
-                2 => set_again(&mut signal, |s| s.set_duty_cycle(value(2))),
-                3 => signal.reset_waveform(),
-                _ => (),
-            }
-        }
-        said = answered(&signal, &out);
-    }
-    lines.line(1, &Given::into(words, out), &said);
-}
-
-fn made_port(lines: &mut Lines, n: usize) {
-    let mut words = [&[word(&2.5), word(&-3.0)][..], &reading(Some(50.0))].concat();
-    words.extend([0; 6]);
-    let out = made(n as u32, n);
-    let mut said = refused(&out);
-    if on_grid(n) {
-        let mut samples = out.clone();
-        let mut signal = Signal::new_power_port(2.5, -3.0, Some(50.0), &mut samples);
-        with_thd(&mut signal, 0.0);
-        said = answered(&signal, &out);
-    }
-    lines.line(2, &Given::into(words, out), &said);
 }
