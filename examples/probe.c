@@ -13,11 +13,7 @@
 static size_t pairs_of(const char *text, int16_t *volts, int16_t *amps) {
   tj_read read = tj_read_capture((const uint8_t *)text, strlen(text), volts, ROOM, amps, ROOM);
   if (read.code != 0)
-    printf("refused %u at line %zu", (unsigned)read.code, read.line);
-  if (read.column != 0)
-    printf(", character %zu: no right line goes on like that", read.column);
-  if (read.code != 0)
-    printf("\n");
+    printf("refused %u at line %zu\n", (unsigned)read.code, read.line);
   return read.pairs;
 }
 
@@ -71,9 +67,7 @@ int main(void) {
   printf("%zu pairs, p %g nonactive %g s %g pf %g, slew rate %g\n", n, (double)power.power.p, (double)power.power.nonactive,
          (double)power.power.s, (double)power.power.pf, (double)slew.value);
 
-  pairs_of("00010200640032FF9CFFCEFE\n", volts, amps);   /* its sum is wrong */
-  pairs_of("00010200640032FF9cFFCEFF\n", volts, amps);   /* a small letter */
-  pairs_of("00010200640032FF9CFFCEFF\r\n", volts, amps); /* a carriage return where the line feed must stand */
+  pairs_of("00010200640032FF9CFFCEFE\n", volts, amps); /* its sum is wrong */
 
   static const float turn[] = {1, 0, -1, 0}, lagging[] = {0, 1, 0, -1};
   tj_fundamental fundamental = tj_fundamental_power(turn, 4, lagging, 4, 1);

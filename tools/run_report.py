@@ -1,6 +1,6 @@
 #!/usr/bin/env python3
 """Runs the report program where no contract reaches, after `rt check report` or `rt ci`: how much of standard input it reads, and what it says where that or
-standard output fails. Each run's standard output and standard error must be, byte for byte, what documents 01 and 02 and the operating system's texts say.
+standard output fails. Each run's standard output and standard error must be, byte for byte, what document 01 and the operating system's texts say.
 It runs with the kit's loader and C library, as `rt` runs it, and on a machine that is not x86-64 under the kit's emulator.
 usage: run_report.py [PROGRAM]   in the repository's root; the program is target/bin/report unless one is named"""
 import os
@@ -35,11 +35,7 @@ LONG = b"INPUT TOO LONG\n"
 INPUTS = [
     ("no bytes", b"", figures(0, "00000000", "00000000")),
     ("65,536 bytes", most, figures(3863, "459C4000", "3F800000")),
-    ("65,536 bytes, the last line not ended", most[:-1] + b"0", b"REFUSED 5 LINE 3848 COLUMN 137\n"),
-    ("65,535 bytes, the last line cut", most[:-1], b"REFUSED 5 LINE 3848 COLUMN 137\n"),
-    ("lines that end in CRLF", line(0, 16).replace(b"\n", b"\r\n") + line(1, 16), b"REFUSED 5 LINE 1 COLUMN 137\n"),
-    ("a small letter in line 2", line(0, 2) + b"000101a000" + line(2, 1), b"REFUSED 5 LINE 2 COLUMN 7\n"),
-    ("a wrong sum", line(0, 1)[:-2] + b"0\n", b"REFUSED 6 LINE 1\n"),
+    ("65,536 bytes, the last line not ended", most[:-1] + b"0", b"REFUSED 5 LINE 3848\n"),
     ("65,537 bytes", most + b"\n", LONG),
     ("65,553 bytes, a right line more", most + line(3848, 1), LONG),
     ("131,072 bytes", most + most, LONG),

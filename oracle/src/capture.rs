@@ -2,7 +2,7 @@
 
 use crate::common::{black_box, Check, Log, Random, Table};
 use crate::lines::{self, Pair, LONGEST};
-use crate::mutate::{capture, codes, grouped, mutate, rooms, short_captures, small_capture, with_returns};
+use crate::mutate::{capture, codes, grouped, mutate, rooms, short_captures, small_capture};
 use crate::wall::{fenced, lent, Wall};
 use tilljingle::raw::{tj_read_capture, tj_write_capture, Read, Written};
 
@@ -43,15 +43,11 @@ const VOLT: i16 = 0x5A5A;
 const AMP: i16 = -0x3C3C;
 const BYTE: u8 = 0xEE;
 
-/// The last column of the longest line.
-const LAST: usize = 137;
-
 /// Reads by both, and compares the answers and all that was lent, with what stands around it.
 pub struct Reader {
     wall: Wall,
-    /// How often each number was answered, and each column.
-    answers: [u64; 8],
-    columns: [u64; LAST + 1],
+    /// How often each number was answered.
+    pub answers: [u64; 8],
 }
 
 impl Reader {
@@ -60,19 +56,6 @@ impl Reader {
         Reader {
             wall: Wall::new(bytes),
             answers: [0; 8],
-            columns: [0; LAST + 1],
-        }
-    }
-
-    /// Prints how often each number was answered, and which columns.
-    pub fn print(&self) {
-        println!("read_capture answered 0 to 7 so often: {:?}", self.answers);
-        let times = |column: &usize| self.columns[*column];
-        let answered: Vec<usize> = (1..=LAST).filter(|column| times(column) > 0).collect();
-        if let (Some(first), Some(last)) = (answered.first(), answered.last()) {
-            let least = answered.iter().map(times).min().unwrap_or(0);
-            let different = answered.len();
-            println!("columns {first} to {last}, {different} different ones, each at least {least} times");
         }
     }
 
@@ -89,7 +72,6 @@ impl Reader {
             format!("{:?}, room {} {}: {:?}, the reference {:?}", shown, nv, na, ours, theirs)
         });
         self.answers[theirs.code as usize] += 1;
-        self.columns[theirs.column] += 1;
         theirs
     }
 }
@@ -113,7 +95,6 @@ fn reads_as(text: &[u8], pairs: &[Pair]) -> bool {
     let done = Read {
         code: 0,
         line: 0,
-        column: 0,
         pairs: pairs.len(),
     };
     answer == done && volts.into_iter().zip(amps).eq(pairs.iter().copied())
@@ -121,19 +102,12 @@ fn reads_as(text: &[u8], pairs: &[Pair]) -> bool {
 
 // ---------------------------------------------------------------------------- short captures, exhaustively
 
-/// The short captures, as they are and with carriage returns.
-fn changed_captures() -> Vec<Vec<u8>> {
-    let shorts = short_captures();
-    let returns: Vec<Vec<u8>> = shorts[1..].iter().map(|text| with_returns(text)).collect();
-    [shorts, returns].concat()
-}
-
 /// Every change of one byte, every truncation, removal and insertion.
 fn changes(log: &mut Log, reader: &mut Reader) {
     let changed = log.check("tj_read_capture: each byte of short captures set to each of 256 values");
     let inserted = log.check("tj_read_capture: each of 256 values put in at each place of short captures");
     let cut = log.check("tj_read_capture: short captures cut off or begun at each place, or without the byte there");
-    for text in changed_captures() {
+    for text in short_captures() {
         for at in 0..=text.len() {
             reader.see(log, cut, &text[..at], 40, 40);
             reader.see(log, cut, &text[at..], 40, 40);
@@ -150,70 +124,6 @@ fn changes(log: &mut Log, reader: &mut Reader) {
                     longer.remove(at + 1);
                     reader.see(log, changed, &longer, 40, 40);
                 }
-            }
-        }
-    }
-}
-
-/// What stands above a line: nothing, a right line, three right lines. The line is to have the number 9.
-fn above(random: &mut Random) -> [Vec<u8>; 3] {
-    [Vec::new(), capture(random, 8, &[16]), capture(random, 6, &[1, 2, 1])]
-}
-
-/// A line of every count with every other count; and with every number of digits, ended in every way.
-fn shapes(log: &mut Log, reader: &mut Reader) {
-    let counted = log.check("tj_read_capture: lines of 1 to 16 pairs with each of 65,536 values for their counts");
-    let sized = log.check("tj_read_capture: each count with up to 150 digits behind it, ended in several ways");
-    let digits = b"0123456789ABCDEF".repeat(10);
-    let ends = ["\n", "", "\r\n", "\r", " \n", "\n\n", "\n0000010001FFFF00\n"];
-    let mut random = Random::new(17);
-    let aboves = above(&mut random);
-    for pairs in 1..=16 {
-        let line = capture(&mut random, 9, &[pairs]);
-        for text in [line.clone(), [&aboves[1][..], &line].concat()] {
-            let at = text.len() - line.len() + 4;
-            for value in 0..=u16::MAX {
-                let mut other = text.clone();
-                other[at..at + 2].copy_from_slice(&value.to_be_bytes());
-                reader.see(log, counted, &other, 40, 40);
-            }
-        }
-        for n in 0..=150 {
-            for (end, above) in ends.iter().flat_map(|end| aboves.iter().map(move |above| (end, above))) {
-                let text = [&above[..], &line[..6], &digits[..n], end.as_bytes()].concat();
-                reader.see(log, sized, &text, 40, 40);
-            }
-        }
-    }
-}
-
-/// Whether a line that begins so can become one of right form, by the judge of whole lines: as the front of a line of one of the counts.
-fn can_become(front: &[u8]) -> bool {
-    (1..=16).any(|pairs| {
-        let rest = lines::line_of(0, &vec![(0, 0); pairs]);
-        let line = rest.get(front.len()..).map(|rest| [front, rest].concat());
-        let ended = line.as_ref().and_then(|line| line.strip_suffix(b"\n"));
-        ended.map_or(false, |line| lines::frame(line) != Err(5))
-    })
-}
-
-/// 02's sentence word for word, of the reference: before the column the line can still become a right one, with the character there it can't.
-fn sentence(log: &mut Log) {
-    let check = log.check("the column of lines.rs by whole lines: each value set or put in at each place of lines of 1, 2 and 16 pairs, each cut");
-    let mut see = |line: &[u8]| {
-        let column = lines::column(line);
-        let lost = column > line.len() || !can_become(&line[..column]);
-        let same = lost && can_become(&line[..column - 1]);
-        log.see(check, same, || format!("{:?}: {}", line, column));
-    };
-    let mut random = Random::new(18);
-    for pairs in [1, 2, 16] {
-        let line = capture(&mut random, 9, &[pairs]);
-        for at in 0..line.len() {
-            see(&line[..at]);
-            for value in 0..=255 {
-                see(&[&line[..at], &[value], &line[at..]].concat());
-                see(&[&line[..at], &[value], &line[at + 1..]].concat());
             }
         }
     }
@@ -287,7 +197,7 @@ fn splits(log: &mut Log, reader: &mut Reader) {
 
 // ---------------------------------------------------------------------------- large and random captures
 
-/// Reads it with rooms around its pairs, then with a wrong digit, a small letter and a missing end in its last line.
+/// Reads it with rooms around its pairs, then with a wrong digit and a missing end in its last line.
 fn see_around(log: &mut Log, check: Check, reader: &mut Reader, mut text: Vec<u8>, total: usize) {
     let less = total.saturating_sub(1);
     for (nv, na) in [(total, total), (less, total), (total, less), (total + 7, total + 1), (0, 0), (70_000, 70_000)] {
@@ -296,9 +206,6 @@ fn see_around(log: &mut Log, check: Check, reader: &mut Reader, mut text: Vec<u8
     let last = text.len() - 2;
     text[last] = if text[last] == b'0' { b'1' } else { b'0' };
     reader.see(log, check, &text, total, total);
-    text[last] = b'a';
-    reader.see(log, check, &text, total, total);
-    text[last] = b'A';
     text.truncate(last + 1);
     reader.see(log, check, &text, total, total);
 }
@@ -386,13 +293,11 @@ pub fn compare(rounds: u64, log: &mut Log) {
     // the longest: 66,016 lines of one pair
     let mut reader = Reader::new(17 * 66_016);
     changes(log, &mut reader);
-    shapes(log, &mut reader);
-    sentence(log);
     twice(log, &mut reader);
     splits(log, &mut reader);
     large(log, &mut reader);
     mutated(rounds, log, &mut reader);
-    reader.print();
+    println!("read_capture answered 0 to 7 so often: {:?}", reader.answers);
     writer(rounds, log);
 }
 

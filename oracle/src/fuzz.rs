@@ -7,12 +7,11 @@ use crate::report::see_call;
 use crate::wall::Wall;
 use std::collections::HashSet;
 use std::time::{Duration, Instant};
-use tilljingle::raw::Read;
 
 /// The longest capture that others are made from.
 const LONG: usize = 4000;
 
-/// Changes captures of a corpus for so many minutes. One whose answer, length in lines or pairs is new, or whose column, joins the corpus.
+/// Changes captures of a corpus for so many minutes. One whose answer, length in lines or pairs is new joins the corpus.
 pub fn fuzz(minutes: u64, seed: u64, log: &mut Log) {
     let check = log.check("tj_read_capture: fuzzed captures");
     let report = log.check("tj_report_text: the same");
@@ -20,7 +19,7 @@ pub fn fuzz(minutes: u64, seed: u64, log: &mut Log) {
     let mut wall = Wall::new(4 * LONG);
     let mut random = Random::new(seed);
     let mut corpus = short_captures();
-    let (mut kinds, mut columns) = (HashSet::new(), HashSet::new());
+    let mut kinds = HashSet::new();
     let start = Instant::now();
     while start.elapsed() < Duration::from_secs(60 * minutes) {
         for _ in 0..1000 {
@@ -33,9 +32,7 @@ pub fn fuzz(minutes: u64, seed: u64, log: &mut Log) {
             let answer = reader.see(log, check, &text, nv, na);
             see_call(log, report, &mut wall, &text, random.below(4) as isize - 1);
             let lines = text.iter().filter(|b| **b == b'\n').count();
-            // columns by themselves: with lines and pairs they would make too many kinds
-            let kind = (Read { column: 0, ..answer }, lines);
-            if text.len() <= LONG && (kinds.insert(kind) | columns.insert(answer.column)) {
+            if text.len() <= LONG && kinds.insert((answer, lines)) {
                 corpus.push(text);
             }
         }
@@ -46,5 +43,5 @@ pub fn fuzz(minutes: u64, seed: u64, log: &mut Log) {
         minutes,
         corpus.len()
     );
-    reader.print();
+    println!("answered 0 to 7 so often: {:?}", reader.answers);
 }

@@ -32,7 +32,7 @@ pub fn capture(random: &mut Random, first: u16, counts: &[usize]) -> Vec<u8> {
     grouped(&pairs, first, counts)
 }
 
-/// The captures from which changes start: lines of 1, 2 and 16 pairs by themselves, and below others.
+/// The captures from which changes start.
 pub fn short_captures() -> Vec<Vec<u8>> {
     let mut random = Random::new(11);
     vec![
@@ -42,17 +42,7 @@ pub fn short_captures() -> Vec<Vec<u8>> {
         capture(&mut random, 65535, &[1, 1]),
         capture(&mut random, 7, &[2, 1, 3]),
         capture(&mut random, 0xABCD, &[16, 2]),
-        capture(&mut random, 255, &[16]),
-        capture(&mut random, 65534, &[1, 2, 16]),
     ]
-}
-
-/// A capture with a carriage return before each line feed.
-pub fn with_returns(text: &[u8]) -> Vec<u8> {
-    let lines = text.split_inclusive(|b| *b == b'\n');
-    lines
-        .flat_map(|line| [line.strip_suffix(b"\n").unwrap_or(line), b"\r\n"].concat())
-        .collect()
 }
 
 /// A capture of none to six lines, whose numbers pass 65,535 often; now and then with a count that no line may have.

@@ -2,7 +2,6 @@
 //! with one field of the answer wrong, of editions one or more. How a line is read stands in crates/replaying/src/lib.rt.
 
 mod captures;
-mod columns;
 mod editions;
 mod limits;
 mod long;
@@ -59,7 +58,6 @@ const PROGRAMS: [(&str, &[File]); 4] = [
         "replay_lines",
         &[
             ("capture", 111, 11, captures::capture),
-            ("columns", 120, 11, columns::columns),
             ("codes", 112, 4, captures::codes),
             ("report", 113, 11, captures::report),
             ("capture_limits", 116, 0, limits::captures),

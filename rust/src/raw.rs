@@ -51,7 +51,6 @@ pub struct SignalAnswer {
 pub struct Read {
     pub code: u8,
     pub line: usize,
-    pub column: usize,
     pub pairs: usize,
 }
 

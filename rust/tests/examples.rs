@@ -78,53 +78,9 @@ fn a_capture_there_and_back() {
         read_capture(&text[..bytes], &mut v[..2], &mut a),
         Err(BadCapture {
             refusal: Refusal::OutputShort,
-            line: 0,
-            column: 0
+            line: 0
         })
     );
-}
-
-/// How the reading of a capture that isn't right was refused: the reason, the line and the column.
-fn refused(text: &[u8]) -> (Refusal, usize, usize) {
-    let (mut v, mut a) = ([7; 20], [7; 20]);
-    let bad = read_capture(text, &mut v, &mut a).unwrap_err();
-    assert_eq!((v, a), ([7; 20], [7; 20]));
-    (bad.refusal, bad.line, bad.column)
-}
-
-#[test]
-fn the_column_of_a_wrong_form() {
-    let form = |line, column| (Refusal::WrongForm, line, column);
-    // a small letter, a blank, and a byte above 127
-    assert_eq!(refused(b"0000010001ffff00\n"), form(1, 11));
-    assert_eq!(refused(b"0000 10001FFFF00\n"), form(1, 5));
-    assert_eq!(refused(b"0000010001FFFF0\xB5\n"), form(1, 16));
-    // no count begins with 2; 00 and 11 are none
-    assert_eq!(refused(b"0000210001FFFF00\n"), form(1, 5));
-    assert_eq!(refused(b"0000000001FFFF00\n"), form(1, 6));
-    assert_eq!(refused(b"0000110001FFFF00\n"), form(1, 6));
-    // the line feed too early, a digit in its place, and none at the end
-    assert_eq!(refused(b"0000010001FFFF00\n0001010001FFFFF\n"), form(2, 16));
-    assert_eq!(refused(b"0000010001FFFF00\n0001010001FFFFFF0\n"), form(2, 17));
-    assert_eq!(refused(b"0000010001FFFF00\n0001010001FFFFFF"), form(2, 17));
-    assert_eq!(refused(b"0000010001FFFF00\n0001"), form(2, 5));
-    assert_eq!(refused(b"\n"), form(1, 1));
-}
-
-#[test]
-fn the_column_of_a_carriage_return() {
-    let mut text = [0; 137];
-    assert_eq!(write_capture(&[1; 16], &[-1; 16], 0, &mut text), Ok(137));
-    let full = [&text[..136], b"\r\n"].concat();
-    assert_eq!(refused(&full), (Refusal::WrongForm, 1, 137));
-    assert_eq!(refused(b"0000010001FFFF00\r\n"), (Refusal::WrongForm, 1, 17));
-}
-
-#[test]
-fn no_column_but_of_a_wrong_form() {
-    assert_eq!(refused(b"0000010001FFFF01\n"), (Refusal::WrongSum, 1, 0));
-    let twice = b"0000010001FFFF00\n0000010001FFFF00\n";
-    assert_eq!(refused(twice), (Refusal::WrongSequence, 2, 0));
 }
 
 #[test]
@@ -136,13 +92,6 @@ fn the_report() {
         b"PAIRS 2\nP 459C4000\nQ 00000000\nS 459C4000\nPF 3F800000\n"
     );
     assert_eq!(report_text(b"", &mut text[..8]), Err(Refusal::OutputShort));
-    for (input, report) in [
-        (&b"0000010001FFFF00\n00010\n"[..], &b"REFUSED 5 LINE 2 COLUMN 6\n"[..]),
-        (b"0000010001FFFF01\n", b"REFUSED 6 LINE 1\n"),
-    ] {
-        let bytes = report_text(input, &mut text).unwrap();
-        assert_eq!(&text[..bytes], report);
-    }
 }
 
 #[test]

@@ -112,11 +112,10 @@ LONG(tj_signal_answer, 536);
 AT(tj_signal_answer, code, 0);
 AT(tj_signal_answer, signal, 8);
 
-LONG(tj_read, 32);
+LONG(tj_read, 24);
 AT(tj_read, code, 0);
 AT(tj_read, line, 8);
-AT(tj_read, column, 16);
-AT(tj_read, pairs, 24);
+AT(tj_read, pairs, 16);
 
 LONG(tj_written, 16);
 AT(tj_written, code, 0);

@@ -1,3 +1,2 @@
 -- Laws over the definitions of `answers`. Assumes nothing.
 pub mod Ended
-pub mod Rows

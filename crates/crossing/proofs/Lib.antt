@@ -2,4 +2,3 @@
 pub mod PortCrossing
 pub mod InPlace
 pub mod SignalCrossing
-pub mod CaptureCrossing

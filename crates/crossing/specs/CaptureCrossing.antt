@@ -1,5 +1,4 @@
 -- How the answer of a reading or a writing crosses the boundary: the outcome as its number, the rest as it is. Definitions only.
-use Rattle.std.specs.Prelude.{◌≡◌}
 use Rattle.answers.specs.Numbers.{number_of}
 use Rattle.capture.specs.declared.ReadAnswer.{ReadAnswer}
 use Rattle.writing.specs.declared.WriteAnswer.{WriteAnswer}
@@ -7,11 +6,7 @@ use Rattle.crossing.specs.declared.captures.CodedRead.{CodedRead}
 use Rattle.crossing.specs.declared.captures.CodedWritten.{CodedWritten}
 
 abbrev pub coded_read : ReadAnswer → CodedRead
-coded_read a = record { code = number_of a.outcome; line = a.line; column = a.column; pairs = a.pairs }
+coded_read a = record { code = number_of a.outcome; line = a.line; pairs = a.pairs }
 
 abbrev pub coded_written : WriteAnswer → CodedWritten
 coded_written a = record { code = number_of a.outcome; bytes = a.bytes }
-
--- what is claimed of a reading's answer: number, line, column (02, d) and pairs cross as they are, each in its own place (`read_out`)
-abbrev pub ReadOut : Type 0
-ReadOut = (a : ReadAnswer) → ((coded_read a).code ≡ number_of a.outcome) × ((coded_read a).line ≡ a.line) × ((coded_read a).column ≡ a.column) × ((coded_read a).pairs ≡ a.pairs)

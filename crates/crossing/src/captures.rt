@@ -5,13 +5,12 @@ ghost use Rattle.crossing.specs.CaptureCrossing.{coded_read, coded_written};
 use capture::ReadAnswer;
 use writing::WriteAnswer;
 
-// The number of a reading's outcome, the line, the column and the pairs.
+// The number of a reading's outcome, the line and the pairs.
 #[repr(C)]
 #[derive(Drop)]
 pub struct CodedRead {
     pub code: u8,
     pub line: usize,
-    pub column: usize,
     pub pairs: usize,
 }
 
@@ -30,7 +29,6 @@ pub fn read_of(a: ReadAnswer) -> CodedRead
     CodedRead {
         code: answers::number_of(o),
         line: a.line,
-        column: a.column,
         pairs: a.pairs,
     }
 }

@@ -33,7 +33,6 @@ fn file(name: &[u8], before: Tally) -> Tally {
 
 fn right() -> Tally {
     let tally = file(b"capture", files::none());
-    let tally = file(b"columns", tally);
     let tally = file(b"codes", tally);
     let tally = file(b"report", tally);
     file(b"capture_limits", tally)

@@ -40,17 +40,12 @@ pub fn write_part(
 
 // ---- the cases
 
-// The number of the outcome, a line or a count of bytes, a count of pairs, and a column, as one number; only where what was written is right.
-pub fn code(outcome: u32, line: usize, pairs: usize, column: usize, right: bool) -> Said {
+// The number of the outcome, a line or a count of bytes, and a count of pairs, as one number; only where what was written is right.
+pub fn code(outcome: u32, line: usize, pairs: usize, right: bool) -> Said {
     if !right {
         return said::nothing();
     }
-    said::code(
-        outcome % 16
-            + ((line % 4096) as u32) * 16
-            + ((pairs % 256) as u32) * 0x1_0000
-            + ((column % 256) as u32) * 0x100_0000,
-    )
+    said::code(outcome % 16 + ((line % 4096) as u32) * 16 + ((pairs % 4096) as u32) * 0x1_0000)
 }
 
 // The length of the text, the rooms, the codes afterwards, the text. Before, 7 and 8 stand in the rooms.
@@ -66,7 +61,7 @@ pub fn read_case(line: &[u8]) -> Said {
     let outcome = r.outcome;
     let right = packed::same_codes(line, 7, true, &volts)
         & packed::same_codes(line, 7, false, &amps);
-    code(said::code_of(outcome), r.line, r.pairs, r.column, right)
+    code(said::code_of(outcome), r.line, r.pairs, right)
 }
 
 // The first number, the room, the counts of codes, the codes, the room afterwards. Before, a full stop stands in each place.
@@ -85,7 +80,6 @@ pub fn write_case(line: &[u8]) -> Said {
     code(
         said::code_of(outcome),
         r.bytes,
-        0,
         0,
         packed::same_text(line, 28, n, &text),
     )

@@ -58,10 +58,9 @@ fn read_long(line: &[u8], text: &[u8], volts: &mut [i16], amps: &mut [i16]) -> S
     let r = of_capture::read_part(text, n, volts, nv, amps, na);
     let outcome = r.outcome;
     let right = (r.line == read::size(line, 7))
-        & (r.column == read::size(line, 8))
-        & (r.pairs == read::size(line, 9))
-        & same_three(line, 10, true, volts)
-        & same_three(line, 10, false, amps);
+        & (r.pairs == read::size(line, 8))
+        & same_three(line, 9, true, volts)
+        & same_three(line, 9, false, amps);
     said::where_right(right, outcome)
 }
 
@@ -95,8 +94,8 @@ fn on_text(line: &[u8], reads: bool, text: &mut [u8]) -> Said {
     read_codes(line, text)
 }
 
-// Reading: the length of the text, the rooms, the line, the column and the pairs answered, three places and what stands there afterwards. Writing: the counts
-// of codes, the room, the bytes answered, three places and what stands there afterwards. Before, a full stop stands in each place of the text.
+// Reading: the length of the text, the rooms, the line and the pairs answered, three places and what stands there afterwards. Writing: the counts of codes,
+// the room, the bytes answered, three places and what stands there afterwards. Before, a full stop stands in each place of the text.
 pub fn call(line: &[u8], reads: bool) -> Said {
     on_text(line, reads, &mut [46u8; 561169])
 }

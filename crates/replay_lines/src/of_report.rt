@@ -24,7 +24,6 @@ pub fn call(line: &[u8]) -> Said {
         said::code_of(outcome),
         r.bytes,
         0,
-        0,
         packed::same_text(line, 6, room, &text),
     )
 }

@@ -2,4 +2,3 @@ pub mod Decimal
 pub mod Stored
 pub mod Texts
 pub mod Whole
-pub mod Printed

@@ -2,4 +2,3 @@
 pub mod Put
 pub mod Text
 pub mod Report
-pub mod Claims

@@ -132,7 +132,7 @@ starred =
     -- "Of 3, 1: 2."
     ∷ row (spectrum (p 3 ∷ p 1 ∷ []) (old ∷ [])) (bins (left Done (p 2 ∷ [])))
     -- "`0000010001FFFF00` holds the pair 1, -1."; places past the pair stay
-    ∷ row (capture text (pos 7 ∷ pos 7 ∷ []) (pos 8 ∷ pos 8 ∷ [])) (codes (left (record { outcome = Done; line = 0; column = 0; pairs = 1 }) (pos 1 ∷ pos 7 ∷ [], negsuc 0 ∷ pos 8 ∷ [])))
+    ∷ row (capture text (pos 7 ∷ pos 7 ∷ []) (pos 8 ∷ pos 8 ∷ [])) (codes (left (record { outcome = Done; line = 0; pairs = 1 }) (pos 1 ∷ pos 7 ∷ [], negsuc 0 ∷ pos 8 ∷ [])))
     -- 02, c: "(1, 0, -1, 0) and (0, 1, 0, -1) at bin 1 give 0 and 0.5"
     ∷ row (fundamental (p 1 ∷ p 0 ∷ m 1 ∷ p 0 ∷ []) (p 0 ∷ p 1 ∷ p 0 ∷ m 1 ∷ []) 1) (fundamentals (record { outcome = Done; power = fundamental_with (p 0) (of_bits binary32 0x3F000000) }))
     ∷ []

@@ -131,8 +131,8 @@ written_good first vs ws k vc wc h =
 -- and puts the same codes there; places past them stay
 pub round_trip : (first : ℕ) (vs ws volts amps : List ℤ) → first < 65536 → Codes vs → Codes ws
     → length vs ≡ length ws → length vs ≤ longest → length vs ≤ length volts → length vs ≤ length amps
-    → read_capture (capture_text first vs ws) volts amps ≡ left (record { outcome = Done; line = 0; column = 0; pairs = length vs }) (onto vs volts, onto ws amps)
+    → read_capture (capture_text first vs ws) volts amps ≡ left (record { outcome = Done; line = 0; pairs = length vs }) (onto vs volts, onto ws amps)
 round_trip first vs ws volts amps k vc wc h m rv ra =
     let g = written_good first vs ws k vc wc h in
     sym (read_done (capture_text first vs ws) volts amps (length vs) g.0 m rv ra)
-    ∙ ap₂ (λ (x y : List ℤ). left {A = ReadAnswer} {B = List ℤ × List ℤ} (record { outcome = Done; line = 0; column = 0; pairs = length vs }) (onto x volts, onto y amps)) g.1 g.2
+    ∙ ap₂ (λ (x y : List ℤ). left {A = ReadAnswer} {B = List ℤ × List ℤ} (record { outcome = Done; line = 0; pairs = length vs }) (onto x volts, onto y amps)) g.1 g.2

@@ -1,7 +1,7 @@
 //! Capture lines, read and written; the power of codes; the report.
 
 use super::wrong::{text_fields, Field, PAIR};
-use super::{columns, Given, Lines, Said};
+use super::{Given, Lines, Said};
 use crate::common::Random;
 use crate::lines;
 use crate::mutate::{self, mutate};
@@ -85,38 +85,15 @@ pub fn capture(lines: &mut Lines) {
     }
 }
 
-/// What a reading answered as one number: code, line, pairs and column.
-fn packed_read(read: &Read) -> u32 {
-    assert!(read.line < 4096 && read.pairs < 256 && read.column < 256);
-    read.code as u32 + 16 * read.line as u32 + 0x1_0000 * read.pairs as u32 + 0x100_0000 * read.column as u32
-}
-
-/// Reads a capture into so many places of 20; what the call is given, and the answer.
-pub fn reading(text: &[u8], nv: usize, na: usize) -> (Given, Read) {
+/// Reads a capture into so many places of 20.
+fn read_into(lines: &mut Lines, text: &[u8], nv: usize, na: usize) -> Read {
     let (mut volts, mut amps) = ([7; 20], [8; 20]);
     let read = lines::read(text, &mut volts[..nv], &mut amps[..na]);
     let mut words = vec![text.len() as u32, nv as u32, na as u32];
     words.extend(pairs(&volts, &amps));
     words.extend(packed(text));
-    let given = Given {
-        answers: (3..23).map(|k| (k, PAIR)).collect(),
-        ..Given::numbers(words)
-    };
-    (given, read)
-}
-
-/// What a line says of such an answer.
-pub fn said(read: &Read) -> Said {
-    Said {
-        code: packed_read(read),
-        ..Said::default()
-    }
-}
-
-/// A line of such a reading.
-pub fn read_into(lines: &mut Lines, text: &[u8], nv: usize, na: usize) -> Read {
-    let (given, read) = reading(text, nv, na);
-    lines.line(1, &given, &said(&read));
+    let code = read.code as u32 + 16 * read.line as u32 + 65_536 * read.pairs as u32;
+    ended(lines, 1, words, (3..23).map(|k| (k, PAIR)).collect(), code);
     read
 }
 
@@ -182,14 +159,15 @@ pub fn codes(lines: &mut Lines) {
 
 /// The bytes of a report's input that a line has room for, and those of the room for the report.
 const INPUT: usize = 640;
-pub const PRINTED: usize = 96;
+const PRINTED: usize = 96;
 
-/// What is printed into so many bytes of room, where this is the report: what the call is given, and what it answers.
-pub fn printing(input: &[u8], text: &[u8], room: usize) -> (Given, Said) {
+/// What is printed into so many bytes of room.
+fn reported(lines: &mut Lines, input: &[u8], room: usize) {
+    let text = report::reference_report(input);
     let mut printed = [b'.'; PRINTED];
     let code = match printed[..room].get_mut(..text.len()) {
         Some(front) => {
-            front.copy_from_slice(text);
+            front.copy_from_slice(&text);
             16 * text.len() as u32
         }
         None => 2,
@@ -197,21 +175,7 @@ pub fn printing(input: &[u8], text: &[u8], room: usize) -> (Given, Said) {
     let mut words = vec![input.len() as u32, room as u32];
     words.extend(packed(&printed));
     words.extend(packed(input));
-    let given = Given {
-        answers: text_fields(2, room),
-        ..Given::numbers(words)
-    };
-    let said = Said {
-        code,
-        ..Said::default()
-    };
-    (given, said)
-}
-
-/// A line of the report of this input.
-fn reported(lines: &mut Lines, input: &[u8], room: usize) {
-    let (given, said) = printing(input, &report::reference_report(input), room);
-    lines.line(3, &given, &said);
+    ended(lines, 3, words, text_fields(2, room), code);
 }
 
 /// The edges that have room here, each with much, enough, too little and no room; then captures of a few lines, every other one changed.
@@ -238,5 +202,4 @@ pub fn report(lines: &mut Lines) {
         let room = lines.random.pick(&[needed, needed, needed + 1, PRINTED, needed - 1]);
         reported(lines, &input, room);
     }
-    columns::reports(lines);
 }

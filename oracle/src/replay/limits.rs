@@ -238,13 +238,12 @@ fn reads(lines: &mut Lines) {
     ] {
         let (mut volts, mut amps) = (vec![5; over], vec![6; over]);
         let read = lines::read(&text[..n], &mut volts[..nv], &mut amps[..na]);
-        let answer = [read.line, read.column, read.pairs];
-        let mut words: Vec<u32> = [n, nv, na].iter().chain(&answer).map(|x| *x as u32).collect();
+        let mut words: Vec<u32> = [n, nv, na, read.line, read.pairs].iter().map(|x| *x as u32).collect();
         for k in [0, LONGEST - 1, LONGEST] {
             words.push(k as u32);
             words.extend(pairs(&volts[k..=k], &amps[k..=k]));
         }
-        let answers = vec![(3, WHOLE), (4, WHOLE), (5, WHOLE), (7, PAIR), (9, PAIR), (11, PAIR)];
+        let answers = vec![(3, WHOLE), (4, WHOLE), (6, PAIR), (8, PAIR), (10, PAIR)];
         ended(lines, 5, words, answers, read.code as u32);
     }
 }

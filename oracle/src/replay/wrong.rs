@@ -12,12 +12,11 @@ pub enum Field {
     Double,
 }
 
-/// A whole number; a count of the time record; a voltage and a current code; a code of 01's table with a line or bytes, with pairs and with a column; four
-/// bytes of a text.
+/// A whole number; a count of the time record; a voltage and a current code; a code of 01's table with a line or bytes and with pairs; four bytes of a text.
 pub const WHOLE: Field = Field::Bits(&[1]);
 pub const COUNT: Field = Field::Bits(&[1, 0x1_0000, 0x8000_0000]);
 pub const PAIR: Field = Field::Bits(&[0x1_0000, 1]);
-pub const PACKED: Field = Field::Bits(&[1, 0x10, 0x1_0000, 0x100_0000]);
+pub const PACKED: Field = Field::Bits(&[1, 0x10, 0x1_0000]);
 const BYTES: [u32; 4] = [0x100_0000, 0x1_0000, 0x100, 1];
 
 /// A text of n bytes from the word `at` on.
