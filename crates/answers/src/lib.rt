@@ -1,4 +1,5 @@
 // How every call of the library ends, and the longest slice that is read. Each public answer has an Outcome, alone or beside its values.
+#![tactic(auto)]
 
 // The table of numbers a call can return, by name; `number_of` and `specs/Numbers.antt` give the numbers.
 #[derive(Drop)]

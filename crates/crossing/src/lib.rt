@@ -1,4 +1,6 @@
 // How records cross the C boundary: flat ones for those that hold an enum, and the way there and back. The exports stand in `tilljingle`.
+#![tactic(auto)]
+
 pub mod captures;
 pub mod fundamentals;
 pub mod harmonics;

@@ -1,4 +1,6 @@
 // The time figures of a capture: extremes, means, duty cycle, rise and fall, crest, frequency, slew rate, overshoot; and how many samples were no number or infinite.
+#![tactic(auto)]
+
 mod duty;
 mod edges;
 mod levels;

@@ -1,5 +1,7 @@
 // Active and reactive power of one bin of a voltage and a current that were sampled together: at the fundamental's bin, the power that the fundamental carries.
 // The contract cites `specs/Fundamental.antt`.
+#![tactic(auto)]
+
 ghost use Rattle.std.specs.Prelude.{◌≡◌, ◌<◌, ◌≤◌, true, length};
 ghost use Rattle.quarter.specs.Table.{quarter_table};
 ghost use Rattle.spectrum.specs.Grid.{on_grid};

@@ -1,4 +1,6 @@
 // The generator for the waves that need no sine.
+#![tactic(auto)]
+
 pub mod parts;
 
 ghost use Rattle.std.specs.Prelude.{◌≡◌};

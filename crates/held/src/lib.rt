@@ -1,4 +1,6 @@
 // A signal that keeps the caller's samples beside what it answered last. Each function takes the signal apart and calls the covered one by value.
+#![tactic(auto)]
+
 mod parts;
 
 ghost use Rattle.std.specs.Prelude.{◌≡◌};

@@ -18,7 +18,6 @@ pub mod Harmonics
 pub mod NotNumber
 pub mod NotFinite
 pub mod Quotients
-pub mod ByValue
 pub mod Factors
 pub mod Rounded
 pub mod Over

@@ -1,6 +1,8 @@
 // The number kit: an `f64` as an `f32`, the square root, the absolute value and the nearest whole number, worked out from the bit fields
 // by shifts, masks, comparisons, additions and subtractions: no division, no remainder, no multiplication, and no call of a C library.
 // A contract cites `specs/Number.antt`, over the logic's account of IEEE 754 (`lib.Ieee`).
+#![tactic(auto)]
+
 ghost use Rattle.std.specs.Prelude.{◌≡◌, Bool, false, cond, ℕ, ◌+◌, ◌-◌, ◌*◌, ◌/◌, ◌%◌, ◌^◌, ◌<◌, ◌≤◌, leb};
 ghost use Rattle.std.specs.Float.{Format, binary32, binary64};
 ghost use Rattle.std.specs.Float.Ieee.{prec, emax, of_fields, to_bits};

@@ -1,2 +1,4 @@
 // What the crates that go over samples share.
+#![tactic(auto)]
+
 pub mod parts;

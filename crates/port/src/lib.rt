@@ -1,4 +1,6 @@
 // The readings of an electrical port, by value: each setting takes the port and gives it back.
+#![tactic(auto)]
+
 mod cleared;
 mod levels;
 mod limits;

@@ -1,5 +1,7 @@
 // Active, nonactive and apparent power, and the power factor, of a voltage and a current that were sampled together.
 // The contract cites `specs/Power.antt`.
+#![tactic(auto)]
+
 ghost use Rattle.std.specs.Prelude.{◌≡◌, ◌≤◌, length};
 ghost use Rattle.answers.specs.Numbers.{longest};
 ghost use Rattle.power.specs.Power.{nan_power, power_of, answer_of};

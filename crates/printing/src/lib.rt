@@ -1,4 +1,6 @@
 // What `reporting` makes of an input, on standard output. No contract can say what a call of C writes: the gate runs it.
+#![tactic(auto)]
+
 ghost use Rattle.std.specs.Prelude.{◌≡◌, ◌<◌, length};
 ghost use Rattle.reporting.specs.Report.{longest_input, report_of, report_of_read};
 

@@ -1,4 +1,6 @@
 // Distortion, and the quotients behind the signal-to-noise figures, of a magnitude spectrum whose place 0 is the constant part.
+#![tactic(auto)]
+
 pub mod parts;
 mod spurs;
 mod squares;

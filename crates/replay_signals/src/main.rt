@@ -1,5 +1,7 @@
 // Replays the oracle's answers to calls on signals, by value and held; then answers with one field wrong, each of which must differ. Crate `replaying`
 // says how a case stands in a file, and prints the counts.
+#![tactic(auto)]
+
 use replaying::files;
 use replaying::files::{LARGEST, Tally};
 

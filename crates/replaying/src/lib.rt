@@ -5,6 +5,8 @@
 // slice of more than ROOM places stands in the line as one word (lists.rt). The loop over a file's lines stands in each program, which alone knows its
 // calls: no function can be handed to another. This is a test and no part of what is linked: its functions are proved safe and ending, and say nothing of
 // what they answer. That they see a difference is tried by the cases whose answer is wrong.
+#![tactic(auto)]
+
 pub mod files;
 pub mod lists;
 pub mod made;

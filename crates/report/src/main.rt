@@ -1,4 +1,6 @@
 // The report program: prints the report of standard input, and nothing of an input that could not be read. Whether it is too long, `print_read` decides.
+#![tactic(auto)]
+
 use libc::STDIN_FILENO;
 use reporting::ROOM_FOR_INPUT;
 

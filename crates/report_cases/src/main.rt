@@ -1,4 +1,6 @@
 // Prints the report of inputs at the edges: wrong lines, no bytes, as many pairs and bytes as are taken, and one more of each.
+#![tactic(auto)]
+
 use printing::print_report;
 use writing::write_capture;
 

@@ -1,4 +1,6 @@
 // A signal by value: its state goes in and comes back, and the caller's samples are lent beside it.
+#![tactic(auto)]
+
 mod parts;
 
 ghost use Rattle.std.specs.Prelude.{◌≡◌};

@@ -1,4 +1,6 @@
 // The magnitude spectrum over the quarter wave: one bin at a time in little memory, or several at a time with lent scratch.
+#![tactic(auto)]
+
 ghost use Rattle.std.specs.Prelude.{◌≡◌, ◌/◌, ◌≤◌, true, length};
 ghost use Rattle.answers.specs.Left.{left};
 ghost use Rattle.laws.specs.Filled.{filled};

@@ -1,4 +1,6 @@
 // Frequency by rising crossings of the mean, and the largest slew rate.
+#![tactic(auto)]
+
 ghost use Rattle.std.specs.Prelude.{◌≡◌};
 ghost use Rattle.timing.specs.Timing.{frequency_answer, slew_answer};
 
