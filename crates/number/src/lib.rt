@@ -13,9 +13,9 @@ pub mod parts;
 
 // m / 2^d rounded to the nearest whole number, a tie to the even one.
 fn nearest_shr(m: u64, d: u64) -> u64
-    requires fact_1 { m < 2 ^ 62 }
-    requires fact_2 { 1 ≤ d }
-    requires fact_3 { d ≤ 62 }
+    requires m_bound { m < 2 ^ 62 }
+    requires d_nonzero { 1 ≤ d }
+    requires d_bound { d ≤ 62 }
     ensures { result ≡ closest m (2 ^ d) }
 {
     let half: u64 = 1 << (d - 1);
@@ -24,11 +24,11 @@ fn nearest_shr(m: u64, d: u64) -> u64
 
 // The fields below the sign of the `f32` nearest to the `f64` with this exponent's field and these digits.
 fn narrow_fields(field: u64, digits: u64) -> u64
-    requires fact_1 { field < 2048 }
-    requires fact_2 { digits < 2 ^ 52 }
-    requires fact_3 { (field ≡ 2047 → digits ≡ 0) }
-    ensures fact_1 { ((s : Bool) → to_bits binary32 (Number.narrow (of_fields binary64 s field digits)) ≡ cond s (2 ^ 31) 0 + result) }
-    ensures fact_2 { result < 2 ^ 31 }
+    requires field_bound { field < 2048 }
+    requires digits_bound { digits < 2 ^ 52 }
+    requires no_nan { (field ≡ 2047 → digits ≡ 0) }
+    ensures value { ((s : Bool) → to_bits binary32 (Number.narrow (of_fields binary64 s field digits)) ≡ cond s (2 ^ 31) 0 + result) }
+    ensures below_sign { result < 2 ^ 31 }
 {
     // below half of the smallest `f32`
     if field < 872 {
@@ -75,9 +75,9 @@ struct Digits {
 // r is twice the root so far, which is a multiple of 2 * w, and y is twice what its square leaves, in units of 2 * w.
 // Both new values are chosen from what was there before the test, so that a turn waits for the test, a choice and a subtraction alone.
 fn root_digits(m: u64, p: u64, j: u64) -> Digits
-    requires fact_1 { m < 2 ^ (p + 1) }
-    requires fact_2 { p ≤ 53 }
-    requires fact_3 { j ≤ p }
+    requires m_bound { m < 2 ^ (p + 1) }
+    requires p_bound { p ≤ 53 }
+    requires j_bound { j ≤ p }
     ensures root_value { result.root ≡ Number.whole_root (m * 2 ^ (p + 1)) / 2 ^ j }
     ensures j_value { result.root * 2 ^ j * (result.root * 2 ^ j) + result.root * 2 ^ j * (result.root * 2 ^ j) + result.rest * 2 ^ j ≡ m * 2 ^ (p + 1) + m * 2 ^ (p + 1) }
     ensures rest_bound { result.rest < 4 * (result.root * 2 ^ j) + 2 * 2 ^ j }
@@ -101,10 +101,10 @@ fn root_digits(m: u64, p: u64, j: u64) -> Digits
 
 // The bit pattern of the root of m * 2^(p + 1 + g), for an m of p digits: the root's p + 1 digits rounded to p, beside half of g.
 fn root_of(m: u64, g: u64, p: u64) -> u64
-    requires fact_1 { m < 2 ^ p }
-    requires fact_2 { 1 ≤ p }
-    requires fact_3 { p ≤ 53 }
-    requires fact_4 { g < 4096 }
+    requires m_bound { m < 2 ^ p }
+    requires p_nonzero { 1 ≤ p }
+    requires p_bound { p ≤ 53 }
+    requires g_bound { g < 4096 }
     ensures { result ≡ g / 2 * 2 ^ (p - 1) + (Number.whole_root (m * 2 ^ (g % 2) * 2 ^ (p + 1)) + 1) / 2 }
 {
     ((g >> 1) << (p - 1)) + ((root_digits(m << (g & 1), p, 0).root + 1) >> 1)
@@ -113,10 +113,10 @@ fn root_of(m: u64, g: u64, p: u64) -> u64
 // The bit pattern of the root of the value above zero with this exponent's field and these digits, in the format of p digits and
 // the largest exponent e + 2.
 fn root_fields(field: u64, digits: u64, p: u64, e: u64) -> u64
-    requires fact_1 { 0 < field + digits }
-    requires fact_2 { digits < 2 ^ (p - 1) }
-    requires fact_3 { field ≤ 2 * (e + 2) }
-    requires fact_4 { (2 ≤ p) × (p ≤ 53) × (p ≤ e + 2) × (e ≤ 1021) }
+    requires not_zero { 0 < field + digits }
+    requires digits_bound { digits < 2 ^ (p - 1) }
+    requires field_bound { field ≤ 2 * (e + 2) }
+    requires format { (2 ≤ p) × (p ≤ 53) × (p ≤ e + 2) × (e ≤ 1021) }
     ensures { (f : Format) → prec f ≡ p → emax f ≡ e + 2 → to_bits f (Number.root f (of_fields f false field digits)) ≡ result }
 {
     if field == 0 {
@@ -153,10 +153,10 @@ pub fn sqrt64(x: f64) -> f64
 // The root has 54 digits, of which the first 25 are worked out: those that an `f32` keeps, and the half below them. Where the square of these 25 is within
 // one unit of m, an `f64` doesn't tell the root from the middle of two `f32`, so it is a tie; with m and one unit more, that is a rest of at most two units.
 fn narrowed_of(m: u64, g: u64) -> u64
-    requires fact_1 { 2 ^ 52 ≤ m }
-    requires fact_2 { m < 2 ^ 53 }
-    requires fact_3 { 1792 ≤ g }
-    requires fact_4 { g < 2300 }
+    requires m_low { 2 ^ 52 ≤ m }
+    requires m_bound { m < 2 ^ 53 }
+    requires g_low { 1792 ≤ g }
+    requires g_bound { g < 2300 }
     ensures { result ≡ (g / 2 - 896) * 2 ^ 23 + closest ((Number.whole_root (m * 2 ^ (g % 2) * 2 ^ 54) + 1) / 2) (2 ^ 29) }
 {
     let field: u64 = ((g >> 1) - 896) << 23;
@@ -224,10 +224,10 @@ pub fn abs32(x: f32) -> f32
 
 // The fields below the sign of the whole number nearest to the `f32` of this magnitude, a half away from zero.
 fn away_fields(field: u64, digits: u64) -> u64
-    requires fact_1 { field < 150 }
-    requires fact_2 { digits < 2 ^ 23 }
-    ensures fact_1 { ((s : Bool) → to_bits binary32 (Number.round_away binary32 (of_fields binary32 s field digits)) ≡ cond s (2 ^ 31) 0 + result) }
-    ensures fact_2 { result < 2 ^ 31 }
+    requires field_bound { field < 150 }
+    requires digits_bound { digits < 2 ^ 23 }
+    ensures value { ((s : Bool) → to_bits binary32 (Number.round_away binary32 (of_fields binary32 s field digits)) ≡ cond s (2 ^ 31) 0 + result) }
+    ensures below_sign { result < 2 ^ 31 }
 {
     // below a half
     if field < 126 {

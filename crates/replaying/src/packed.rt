@@ -46,9 +46,9 @@ pub fn same_text(line: &[u8], i: usize, n: usize, text: &[u8]) -> bool {
 pub fn code_at(line: &[u8], i: usize, of_voltage: bool) -> i16 {
     let word = read::word(line, i);
     if of_voltage {
-        return hex::code((word / 0x1_0000 % 0x1_0000) as u16);
+        return hexadecimal::code((word / 0x1_0000 % 0x1_0000) as u16);
     }
-    hex::code((word % 0x1_0000) as u16)
+    hexadecimal::code((word % 0x1_0000) as u16)
 }
 
 // Stores the voltage or the current codes from word i on.

@@ -6,7 +6,7 @@ ghost use Rattle.std.specs.Prelude.{◌≡◌, ◌+◌, ◌<◌, ◌≤◌, min,
 fn nibble(b: u8) -> u32
     ensures { result < 16 }
 {
-    (hex::digit(b) % 16) as u32
+    (hexadecimal::digit(b) % 16) as u32
 }
 
 // The two digits from byte `at` on.

@@ -29,8 +29,8 @@ use Rattle.spectrum.specs.Bin.{step_of, angle_of, turned, sums_to, sums_of, size
 use Rattle.spectrum.specs.Spectrum.{halved, bin_of, outcome_of, spectrum_of}
 use Rattle.fundamental.specs.declared.FundamentalAnswer.{FundamentalAnswer}
 use Rattle.fundamental.specs.Fundamental.{in_phase, across, scaled_of, fundamental_with, fundamental_figures, fundamental_of, fundamental_outcome, fundamental_answer}
-use Rattle.hex.specs.Digit.{within, is_digit, digit_of}
-use Rattle.hex.specs.Code.{code_of}
+use Rattle.hexadecimal.specs.Digit.{within, is_digit, digit_of}
+use Rattle.hexadecimal.specs.Code.{code_of}
 use Rattle.frame.specs.Line.{after, pair_at, word_at, all_digits, sequence_of, count_of, right_form, sum_of, right_sum, line_of, run_codes, codes_by, line_codes}
 use Rattle.capture.specs.Lines.{add as addLine, cut, codes_of}
 use Rattle.capture.specs.Reading.{follows, weigh, judge, verdict_of, ReadLeft, settle, read_capture}

@@ -8,9 +8,9 @@ use native.Mathlib.Nat.{add_assoc}
 use lib.ListN.{length, length-append}
 use lib.Seq.{get_or-append-add}
 use lib.IntN.{ℤ}
-use Rattle.hex.specs.Digit.{is_digit, hex_pair, hex_word}
-use Rattle.hex.specs.Code.{code_of, bits_of}
-use Rattle.hex.proofs.Laws.{char_value, char_digit, bits_lt, bits_back, pair_length, word_length}
+use Rattle.hexadecimal.specs.Digit.{is_digit, hex_pair, hex_word}
+use Rattle.hexadecimal.specs.Code.{code_of, bits_of}
+use Rattle.hexadecimal.proofs.Laws.{char_value, char_digit, bits_lt, bits_back, pair_length, word_length}
 use Rattle.frame.specs.Line.{pair_at, word_at, all_digits, sum_of, sequence_of, count_of, line_of, run_codes, codes_by, line_codes}
 use Rattle.frame.specs.declared.Line.TheVariants.{Frame}
 use Rattle.frame.proofs.Exact.{Formed, frame}

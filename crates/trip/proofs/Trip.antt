@@ -12,7 +12,7 @@ use Rattle.answers.specs.Numbers.{longest}
 use Rattle.answers.specs.Left.{left}
 use Rattle.answers.specs.declared.Outcome.TheVariants.{Done}
 use Rattle.laws.specs.Front.{onto}
-use Rattle.hex.specs.Digit.{is_digit}
+use Rattle.hexadecimal.specs.Digit.{is_digit}
 use Rattle.frame.specs.Line.{at_volts, at_amps, after, all_digits, line_of, line_codes}
 use Rattle.frame.specs.declared.Line.TheVariants.{Frame}
 use Rattle.capture.specs.Lines.{Lines, line, add, cut, codes_of}
