@@ -13,6 +13,10 @@ use lib.Ieee.Bits.{of_bits-to_bits, to_bits-lt, nan_bits_is}
 use lib.Ieee.Fits.{eq→eqb, round_is}
 use lib.Ieee.Order.{drop, kept}
 
+-- what owning a float tells, as a fact: its format holds it
+pub held : {b : Bool} → b ≡ true → T b
+held e = subst T (sym e) tt
+
 -- how many digits the exponent's field has, and how many lie below it
 abbrev pub expo : Format → ℕ
 expo binary32 = 8

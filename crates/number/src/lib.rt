@@ -79,7 +79,7 @@ fn root_digits(m: u64, p: u64, j: u64) -> Digits
     requires p_bound { p ≤ 53 }
     requires j_bound { j ≤ p }
     ensures root_value { result.root ≡ Number.whole_root (m * 2 ^ (p + 1)) / 2 ^ j }
-    ensures j_value { result.root * 2 ^ j * (result.root * 2 ^ j) + result.root * 2 ^ j * (result.root * 2 ^ j) + result.rest * 2 ^ j ≡ m * 2 ^ (p + 1) + m * 2 ^ (p + 1) }
+    ensures rest_value { result.root * 2 ^ j * (result.root * 2 ^ j) + result.root * 2 ^ j * (result.root * 2 ^ j) + result.rest * 2 ^ j ≡ m * 2 ^ (p + 1) + m * 2 ^ (p + 1) }
     ensures rest_bound { result.rest < 4 * (result.root * 2 ^ j) + 2 * 2 ^ j }
 {
     let last: u64 = 1 << j;

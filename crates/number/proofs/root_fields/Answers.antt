@@ -13,8 +13,7 @@ use Rattle.number.specs.Number.{root}
 use Rattle.number.proofs.Pack.{pow_lt_back, twice_hid}
 use Rattle.number.proofs.RootBits.{Answer, low_at, high_at}
 use borrow.Author.Rules.{rules}
-use Rattle.number.proofs.root_fields.Statement.{statement}
-use Rattle.number.proofs.root_fields.Tie as tie
+use Rattle.number.proofs.root_fields.Goals as goal
 
 -- the leading digit of t, brought to the place of p digits
 record Moved (t p L : ℕ) : Type 0 where
@@ -50,75 +49,56 @@ lead : (t p : ℕ) → t < 2 ^ (p - 1) → p ≤ 53 → bit_or t (1 * 2 ^ (p - 1
 lead t p h k =
     ap (λ (x : ℕ). bit_or t x) (shl_exact 1 (p - 1) 64 (lit< tt) (omega arith)) ∙ or_shifted_r 1 (p - 1) t h ∙ ap (λ (x : ℕ). x + t) (one-mul (2 ^ (p - 1)))
 
-lead-lt : (t p : ℕ) → t < 2 ^ (p - 1) → 2 ≤ p → 2 ^ (p - 1) + t < 2 ^ p
-lead-lt t p h k = twice (2 ^ (p - 1)) (2 ^ p) (twice_hid p k) h
+lead_lt : (t p : ℕ) → t < 2 ^ (p - 1) → 2 ≤ p → 2 ^ (p - 1) + t < 2 ^ p
+lead_lt t p h k = twice (2 ^ (p - 1)) (2 ^ p) (twice_hid p k) h
   where
     twice : (a b : ℕ) → b ≡ 2 * a → t < a → a + t < b
     twice a b e l = omega arith
 
-here : (c : tie.Then1) → Moved c.before.args.digits c.before.args.p (count_leading_zeros 64 c.before.args.digits)
-here c = moved c.before.args.digits c.before.args.p (omega arith) (search rules) (search rules) (search rules)
-
-cast-z : tie.Need-overflow-cast-z
-cast-z c =
-    let m = here c in
+pub overflow_cast-z : goal.overflow_cast-z
+overflow_cast-z c =
+    let m = moved c.args.digits c.args.p (omega arith) (search rules) (search rules) (search rules) in
     omega arith
 
-sub-z : tie.Need-overflow-sub-z
-sub-z c = search rules
+pub overflow_sub-z-then-field-eq0 : goal.overflow_sub-z-then-field-eq0
+overflow_sub-z-then-field-eq0 c = (moved c.args.digits c.args.p (omega arith) (search rules) (search rules) (search rules)).least
 
-sub-z-2 : tie.Need-overflow-sub-z-2
-sub-z-2 c = (here c).least
-
-shl-root-of : tie.Need-overflow-shl-root-of
-shl-root-of c =
-    let m = here c in
+pub overflow_shl-digits : goal.overflow_shl-digits
+overflow_shl-digits c =
+    let m = moved c.args.digits c.args.p (omega arith) (search rules) (search rules) (search rules) in
     omega arith
 
-add-root-of : tie.Need-overflow-add-root-of
-add-root-of c = search rules
-
-sub-root-of : tie.Need-overflow-sub-root-of
-sub-root-of c =
-    let m = here c in
+pub overflow_sub-e : goal.overflow_sub-e
+overflow_sub-e c =
+    let m = moved c.args.digits c.args.p (omega arith) (search rules) (search rules) (search rules) in
     omega arith
 
-root-of-requires : tie.Need-root-of-requires
-root-of-requires c κs =
-    let m = here c in
-    (lt_of_le_of_lt (le_of_eq m.exact) m.hi, (omega arith, (omega arith, omega arith)))
+pub root_of-requires : goal.root_of-requires
+root_of-requires c =
+    let m = moved c.args.digits c.args.p (omega arith) (search rules) (search rules) (search rules) in
+    record { m_bound = lt_of_le_of_lt (le_of_eq m.exact) m.hi; p_nonzero = omega arith; p_bound = omega arith; g_bound = omega arith }
 
-returns : tie.Need-returns
-returns c = λ f P E.
-    let a = c.before.before.args in
-    let m = here c.before in
+pub returns-then-field-eq0 : goal.returns-then-field-eq0
+returns-then-field-eq0 c =
+    λ f P E.
+    let a = c.args in
+    let m = moved c.args.digits c.args.p (omega arith) (search rules) (search rules) (search rules) in
     let z = count_leading_zeros 64 a.digits - (64 - a.p) in
-    ap (λ (x : ℕ). to_bits f (root f (of_fields f false x a.digits))) c.before.if1.true
+    ap (λ (x : ℕ). to_bits f (root f (of_fields f false x a.digits))) c.if-field-eq0.true
     ∙ low_at f a.p a.e a.digits z P E (omega arith) m.lo m.hi (omega arith)
     ∙ ap (λ (x : ℕ). Answer a.p x (a.e + 1 - z)) (sym m.exact)
-    ∙ sym c.root-of.ensures
+    ∙ sym c.root_of.ensures
 
-sub-root-of-2 : tie.Need-overflow-sub-root-of-2
-sub-root-of-2 c = search rules
+pub root_of-requires-2 : goal.root_of-requires-2
+root_of-requires-2 c =
+    let t = c.args.digits in
+    let p = c.args.p in
+    record { m_bound = lt_of_le_of_lt (le_of_eq (lead t p (search rules) (search rules))) (lead_lt t p (search rules) (search rules)); p_nonzero = omega arith; p_bound = omega arith; g_bound = omega arith }
 
-shl-root-of-2 : tie.Need-overflow-shl-root-of-2
-shl-root-of-2 c = search rules
-
-add-root-of-2 : tie.Need-overflow-add-root-of-2
-add-root-of-2 c = search rules
-
-root-of-requires-2 : tie.Need-root-of-requires-2
-root-of-requires-2 c κs =
-    let t = c.before.args.digits in
-    let p = c.before.args.p in
-    (lt_of_le_of_lt (le_of_eq (lead t p (search rules) (search rules))) (lead-lt t p (search rules) (search rules)), (omega arith, (omega arith, omega arith)))
-
-returns-2 : tie.Need-returns-2
-returns-2 c = λ f P E.
-    let a = c.before.before.args in
+pub returns : goal.returns
+returns c =
+    λ f P E.
+    let a = c.args in
     high_at f a.p a.e a.field a.digits P E (omega arith) (search rules) (search rules)
     ∙ ap (λ (x : ℕ). Answer a.p x (a.field + a.e)) (sym (lead a.digits a.p (search rules) (search rules)))
-    ∙ sym c.root-of2.ensures
-
-pub root-fields-spec : {M : Type 1} → statement M
-root-fields-spec = tie.close (tie.spec cast-z sub-z sub-z-2 shl-root-of add-root-of sub-root-of root-of-requires returns sub-root-of-2 shl-root-of-2 add-root-of-2 root-of-requires-2 returns-2)
+    ∙ sym c.root_of-2.ensures

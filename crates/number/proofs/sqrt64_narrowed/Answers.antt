@@ -8,19 +8,13 @@ use lib.Bits.{bit_or, and_mask, or_shifted_r}
 use lib.Dec.{T}
 use lib.Ieee.{Float, binary32, binary64, fits, of_fields, to_bits}
 use lib.Ieee.Bits.{to_bits-lt}
-use borrow.Author.Rules.{rules}
 use Rattle.number.specs.Number.{narrow, root, narrowed_root}
-use Rattle.number.proofs.Fields.{field_of, digits_of, digits_lt, written, written_no_nan}
+use Rattle.number.proofs.Fields.{held, field_of, digits_of, digits_lt, written, written_no_nan}
 use Rattle.laws.proofs.Numbers.{is_nan_lem, no_nan}
 use Rattle.number.proofs.NarrowBits.{narrow_fits, narrow_no_nan, of_nan}
 use Rattle.number.proofs.NarrowedRoot.{Bits, narrowed_bits}
 use Rattle.number.proofs.RootCases.{positive, root_nan, root_no_nan}
-use Rattle.number.proofs.sqrt64_narrowed.Statement.{statement}
-use Rattle.number.proofs.sqrt64_narrowed.Tie as tie
-
--- what owning an `f64` tells: the format holds it
-held : (c : tie.Start) → T (fits binary64 c.args.x)
-held c = subst T (sym c.well-formed.0.1) tt
+use Rattle.number.proofs.sqrt64_narrowed.Goals as goal
 
 -- the leading digit set
 lead : (t : ℕ) → t < 2 ^ 52 → bit_or t (2 ^ 52) ≡ 2 ^ 52 + t
@@ -44,72 +38,46 @@ narrowed_at x h l u =
     ∙ ap (λ (m : ℕ). Bits m (b / 2 ^ 52 + 1021)) (sym (lead t (digits_lt binary64 b)))
 
 -- the pattern that is made is the bits of the answer
-made : (c : tie.After-narrowed-of) → to_bits binary32 (narrowed_root c.before.before.before.before.args.x) ≡ c.Narrowed-of.result
+made : (c : goal.After-narrowed_of) → to_bits binary32 (narrowed_root c.args.x) ≡ c.narrowed_of.result
 made c =
-    let s = c.before.before.before.before in
-    narrowed_at s.args.x (held s) c.before.before.if2.true c.before.if3.true ∙ sym c.Narrowed-of.ensures
+    narrowed_at c.args.x (held c.well_formed.0.1) c.if-field-ge771.true c.if-field-le1278.true ∙ sym c.narrowed_of.ensures
 
-returns : tie.Need-returns
+pub returns-then-x : goal.returns-then-x
 unfolding narrowed_root
-returns c = of_nan (root binary64 c.before.args.x) (sym (root_nan binary64 c.before.args.x (is_nan_lem c.before.args.x c.if1.true)))
+returns-then-x c = of_nan (root binary64 c.args.x) (sym (root_nan binary64 c.args.x (is_nan_lem c.args.x c.if-x.true)))
 
-float-to-bits-bits : tie.Need-float-to-bits-bits
-float-to-bits-bits c = no_nan c.before.args.x c.if1.false
+pub float_to_bits-bits : goal.float_to_bits-bits
+float_to_bits-bits c = no_nan c.args.x c.if-x.false
 
-add-narrowed-of : tie.Need-overflow-add-narrowed-of
-add-narrowed-of c = search rules
-
-narrowed-of-requires : tie.Need-narrowed-of-requires
-narrowed-of-requires c κs =
-    let b = to_bits binary64 c.before.before.before.args.x in
+pub narrowed_of-requires : goal.narrowed_of-requires
+narrowed_of-requires c =
+    let b = to_bits binary64 c.args.x in
     let d = digits_lt binary64 b in
     let e = lead (digits_of binary64 b) d in
-    let l = c.before.if2.true in
-    let u = c.if3.true in
-    (omega arith, (omega arith, (omega arith, omega arith)))
+    let l = c.if-field-ge771.true in
+    let u = c.if-field-le1278.true in
+    record { m_low = omega arith; m_bound = omega arith; g_low = omega arith; g_bound = omega arith }
 
-cast-result : tie.Need-overflow-cast-result
+pub overflow_cast-result : goal.overflow_cast-result
 unfolding narrowed_root
-cast-result c =
-    let x = c.before.before.before.before.args.x in
+overflow_cast-result c =
+    let x = c.args.x in
     record { fits = subst (λ (n : ℕ). n < 2 ^ 32) (made c) (to_bits-lt binary32 (narrowed_root x) (narrow_fits (root binary64 x))) }
 
-float-from-bits-result : tie.Need-float-from-bits-result
+pub float_from_bits-result : goal.float_from_bits-result
 unfolding narrowed_root
-float-from-bits-result c =
-    let d = c.before.before.before in
-    let x = d.before.args.x in
+float_from_bits-result c =
+    let x = c.args.x in
     let y = root binary64 x in
-    written_no_nan binary32 (narrow y) _ (narrow_fits y) (narrow_no_nan y (root_no_nan binary64 x (held d.before) (no_nan x d.if1.false) (no_sign (to_bits binary64 x) c.before.if3.true)))
+    written_no_nan binary32 (narrow y) _ (narrow_fits y) (narrow_no_nan y (root_no_nan binary64 x (held c.well_formed.0.1) (no_nan x c.if-x.false) (no_sign (to_bits binary64 x) c.if-field-le1278.true)))
     (made c)
 
-returns-2 : tie.Need-returns-2
+pub returns-then-field-le1278 : goal.returns-then-field-le1278
 unfolding narrowed_root
-returns-2 c =
-    let y = root binary64 c.before.before.before.before.args.x in
+returns-then-field-le1278 c =
+    let y = root binary64 c.args.x in
     written binary32 (narrow y) _ (narrow_fits y) (made c)
 
-sqrt64-requires : tie.Need-sqrt64-requires
-sqrt64-requires c κs = search rules
-
-narrow-requires : tie.Need-narrow-requires
-narrow-requires c κs = search rules
-
-returns-3 : tie.Need-returns-3
+pub returns : goal.returns
 unfolding narrowed_root
-returns-3 c = c.narrow.ensures ∙ ap narrow c.before.sqrt64.ensures
-
-pub sqrt64-narrowed-spec : {M : Type 1} → statement M
-sqrt64-narrowed-spec =
-    tie.close
-    (tie.spec
-    returns
-    float-to-bits-bits
-    add-narrowed-of
-    narrowed-of-requires
-    cast-result
-    float-from-bits-result
-    returns-2
-    sqrt64-requires
-    narrow-requires
-    returns-3)
+returns c = c.narrow.ensures ∙ ap narrow c.sqrt64.ensures

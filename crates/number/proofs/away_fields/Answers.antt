@@ -9,8 +9,7 @@ use lib.Pow.{pow_mono, shl_exact}
 use lib.Bits.{bit_or, or_shifted_r}
 use borrow.Author.Rules.{rules}
 use Rattle.number.proofs.AwayBits.{Away, away_le, away_none, away_some}
-use Rattle.number.proofs.away_fields.Statement.{statement}
-use Rattle.number.proofs.away_fields.Tie as tie
+use Rattle.number.proofs.away_fields.Goals as goal
 
 -- the shifts and the leading digit, as numbers
 half : (d : ℕ) → d ≤ 24 → 1 * 2 ^ (d - 1) % 2 ^ 64 ≡ 2 ^ (d - 1)
@@ -29,48 +28,27 @@ digits_are t d h a b =
 field_is : (F : ℕ) → F < 150 → (F - 1) * 2 ^ 23 % 2 ^ 64 ≡ (F - 1) * 2 ^ 23
 field_is F h = omega arith
 
-returns : tie.Need-returns
-returns c = (λ s. away_none s c.before.args.field c.before.args.digits (search rules) (search rules), search rules)
+pub returns-then-field-lt126 : goal.returns-then-field-lt126
+returns-then-field-lt126 c = record { value = λ s. away_none s c.args.field c.args.digits (search rules) (search rules); below_sign = search rules }
 
-sub-d : tie.Need-overflow-sub-d
-sub-d c = search rules
+pub overflow_add-result : goal.overflow_add-result
+overflow_add-result c =
+    let d = 150 - c.args.field in
+    omega (arith, lead c.args.digits (search rules), half d (omega arith), half_le d (omega arith))
 
-sub-result : tie.Need-overflow-sub-result
-sub-result c = search rules
-
-sub-result-2 : tie.Need-overflow-sub-result-2
-sub-result-2 c = search rules
-
-shl-result : tie.Need-overflow-shl-result
-shl-result c = search rules
-
-add-result : tie.Need-overflow-add-result
-add-result c =
-    let d = 150 - c.before.args.field in
-    omega (arith, lead c.before.args.digits (search rules), half d (omega arith), half_le d (omega arith))
-
-shr-result : tie.Need-overflow-shr-result
-shr-result c = search rules
-
-shl-result-2 : tie.Need-overflow-shl-result-2
-shl-result-2 c = search rules
-
-add-result-2 : tie.Need-overflow-add-result-2
-add-result-2 c =
-    let F = c.before.args.field in
-    let t = c.before.args.digits in
+pub overflow_add-result-2 : goal.overflow_add-result-2
+overflow_add-result-2 c =
+    let F = c.args.field in
+    let t = c.args.digits in
     let a = digits_are t (150 - F) (search rules) (omega arith) (omega arith) in
     let b = away_le (2 ^ 23 + t) (150 - F) (omega arith) (omega arith) (omega arith) (omega arith) in
     omega arith
 
-returns-2 : tie.Need-returns-2
-returns-2 c =
-    let F = c.before.args.field in
-    let t = c.before.args.digits in
+pub returns : goal.returns
+returns c =
+    let F = c.args.field in
+    let t = c.args.digits in
     let e = field_is F (search rules) in
     let a = digits_are t (150 - F) (search rules) (omega arith) (omega arith) in
     let b = away_le (2 ^ 23 + t) (150 - F) (omega arith) (omega arith) (omega arith) (omega arith) in
-    (λ s. away_some s F t (search rules) (search rules) (search rules) ∙ ap₂ (λ (x y : ℕ). cond s (2 ^ 31) 0 + (x + y)) (sym e) (sym a), omega arith)
-
-pub away-fields-spec : {M : Type 1} → statement M
-away-fields-spec = tie.close (tie.spec returns sub-d sub-result sub-result-2 shl-result add-result shr-result shl-result-2 add-result-2 returns-2)
+    record { value = λ s. away_some s F t (search rules) (search rules) (search rules) ∙ ap₂ (λ (x y : ℕ). cond s (2 ^ 31) 0 + (x + y)) (sym e) (sym a); below_sign = omega arith }
