@@ -2,7 +2,7 @@
 #![tactic(auto)]
 
 // The table of numbers a call can return, by name; `number_of` and `specs/Numbers.antt` give the numbers.
-#[derive(Drop)]
+#[derive(Clone, Copy)]
 pub enum Outcome {
     Done,
     LengthsDiffer,
@@ -24,7 +24,7 @@ pub enum Outcome {
 pub const LONGEST: usize = 65536;
 
 // One measured number, and how the call ended.
-#[derive(Drop)]
+#[derive(Clone, Copy)]
 pub struct Measured {
     pub outcome: Outcome,
     pub value: f32,
