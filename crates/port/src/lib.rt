@@ -10,20 +10,20 @@ mod waveform;
 pub use cleared::cleared_port;
 
 // A reading is a number or absent.
-#[derive(Drop)]
+#[derive(Clone, Copy, Drop)]
 pub enum Reading {
     Number(f32),
     Absent,
 }
 
 // A reading as a field, or as an element of an array.
-#[derive(Drop)]
+#[derive(Clone, Copy, Drop)]
 pub struct Slot {
     pub reading: Reading,
 }
 
 // The fields have the Rust's names and order; its `port_frequency` is `frequency` here.
-#[derive(Drop)]
+#[derive(Clone, Copy, Drop)]
 pub struct Port {
     pub voltage: f32,
     pub current: f32,
