@@ -1,7 +1,7 @@
 -- What an infinity in the voltage or the current does to a capture's record, whatever the other samples are. Assumes nothing.
 use Rattle.std.proofs.Common.{◌≡◌, ℕ, zero, suc, ◌+◌, ◌*◌, ◌<◌, ◌≤◌, Bool, true, false, cond, not, T, ltb, List, length, get_or, sym, refl, ap, ◌∙◌, subst, le_trans, le_refl, arith, lit≤, ltb→lt, ne_eqb}
 use native.Mathlib.Decide.{dec_le}
-use lib.Ieee.{Float, nan, inf, fin, Format, binary32, binary64, up, down, is_nan, odd, units, round, sum, add, sub, mul, div, neg, lt, of_int, of_bits}
+use lib.Ieee.{Float, prec, low, nan, inf, fin, Format, binary32, binary64, up, down, is_nan, odd, units, round, sum, add, sub, mul, div, neg, lt, of_int, of_bits}
 use lib.Ieee.Back.{round_whole}
 use lib.Ieee.Exact.{HasValue}
 use lib.Ieee.Positive.{above}
@@ -69,7 +69,7 @@ odd_unsigned d (suc q) k l = refl
 
 units_unsigned : (f : Format) (q k : ℕ) → unsigned (units f false q k) ≡ true
 unfolding units
-units_unsigned f q k = go (ltb _ (overflow f)) _ (odd_unsigned _ q k _)
+units_unsigned f q k = go (ltb _ (overflow f)) _ (odd_unsigned (suc (prec f)) q k (low f))
   where
     go : (b : Bool) (x : Float) → unsigned x ≡ true → unsigned (cond b x (inf false)) ≡ true
     go true x h = h

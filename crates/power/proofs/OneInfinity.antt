@@ -2,7 +2,7 @@
 use Rattle.std.proofs.Common.{◌≡◌, ℕ, zero, suc, ◌+◌, ◌-◌, ◌*◌, ◌%◌, ◌^◌, ◌<◌, ◌≤◌, Bool, true, false, cond, not, ◌&&◌, ◌||◌, T, eqb, ltb, leb, List, length, get_or, sym, refl, ap, ◌∙◌, subst, zero-le, le_trans, le_of_eq, le_refl, lt_of_le_of_lt, le_of_lt, mul-le-mul_right, mul_assoc, suc-mul, mul_comm, add-mul, mul-le-mul, mul-pos, zero-mul, mul-one, le_of_mul-le-mul_right, mul_left_comm, arith, lit<, lit≤, eqb→eq, ltb→lt}
 use native.Mathlib.Nat.{mul-mul-mul_comm}
 use native.Mathlib.Decide.{dec_le}
-use lib.Ieee.{Float, nan, inf, fin, Format, binary32, binary64, up, down, unlike, fits, is_nan, odd, units, round, sum, add, mul, neg, le, lt, eq, of_bits}
+use lib.Ieee.{Float, prec, low, nan, inf, fin, Format, binary32, binary64, up, down, unlike, fits, is_nan, odd, units, round, sum, add, mul, neg, le, lt, eq, of_bits}
 use lib.Ieee.Exact.{HasValue, round_exact}
 use lib.Ieee.Fits.{down_pos, and_r}
 use lib.Ieee.Order.{round_mono}
@@ -38,7 +38,7 @@ odd_neg d (suc q) k l = refl
 
 units_neg : (f : Format) (q k : ℕ) → units f true q k ≡ neg (units f false q k)
 unfolding units neg
-units_neg f q k = go (ltb (q * 2 ^ k) (overflow f)) _ _ (odd_neg _ q k _)
+units_neg f q k = go (ltb (q * 2 ^ k) (overflow f)) _ _ (odd_neg (suc (prec f)) q k (low f))
   where
     go : (b : Bool) (x y : Float) → x ≡ neg y → cond b x (inf true) ≡ neg (cond b y (inf false))
     go true x y h = h

@@ -24,9 +24,9 @@ fn products(
     requires count_bound { count ≤ 32 }
     requires voltage_value { all_numbers voltage.now ≡ true }
     requires current_value { all_numbers current.now ≡ true }
-    requires vi_len_1 { length vi.old ≡ 32 }
-    requires vi_len_2 { length vv.old ≡ 32 }
-    requires vi_len_3 { length ii.old ≡ 32 }
+    requires vi_len { length vi.old ≡ 32 }
+    requires vv_len { length vv.old ≡ 32 }
+    requires ii_len { length ii.old ≡ 32 }
     ensures vi_after { vi.new ≡ filled (product_from voltage.now current.now from) count vi.old }
     ensures vv_after { vv.new ≡ filled (product_from voltage.now voltage.now from) count vv.old }
     ensures ii_after { ii.new ≡ filled (product_from current.now current.now from) count ii.old }

@@ -102,13 +102,12 @@ loop-again c =
     let v = start.args.voltage.now in
     let i = start.args.current.now in
     let from = start.args.from in
-    let room = start.requires.1.1.1.1.1 in
-    let fill : (x y : List Float) (now out : List Float) → length out ≡ 32 → now ≡ filled (product_from x y from) l.j out
-    → set now l.j (product_from x y from l.j) ≡ filled (product_from x y from) (l.j + 1) out = λ x y now out e h. filled_next (product_from x y from) l.j out now _ (omega arith) refl h in (
+    let fill : (x y : List Float) (made out : List Float) → length out ≡ 32 → made ≡ filled (product_from x y from) l.j out
+    → set made l.j (product_from x y from l.j) ≡ filled (product_from x y from) (l.j + 1) out = λ x y made out e h. filled_next (product_from x y from) l.j out made _ (omega arith) refl h in (
       omega arith,
-      fill v i l.vi (now start.args.vi) room.0 l.invariant.1,
-      fill v v l.vv (now start.args.vv) room.1.0 l.invariant.2,
-      fill i i l.ii (now start.args.ii) room.1.1 l.invariant.3,
+      fill v i l.vi start.args.vi.now start.requires.vi_len l.invariant.1,
+      fill v v l.vv start.args.vv.now start.requires.vv_len l.invariant.2,
+      fill i i l.ii start.args.ii.now start.requires.ii_len l.invariant.3,
     )
 
 -- src/blocks.rt:15:1
