@@ -34,7 +34,7 @@ pub fn judged(n: usize, short: bool) -> Outcome
 }
 
 // The real and the imaginary sum of a bin.
-#[derive(Drop)]
+#[derive(Clone, Copy)]
 pub struct Sums {
     pub real: f64,
     pub imag: f64,

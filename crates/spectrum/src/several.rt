@@ -25,7 +25,7 @@ pub fn fill_sines(table: &[u32; 1025], n: usize, scratch: &mut [f64])
 }
 
 // A bin underway: its sums so far, and the place around the turn of the next sample.
-#[derive(Drop)]
+#[derive(Clone, Copy)]
 pub struct Running {
     pub sums: parts::Sums,
     pub at: usize,
@@ -64,7 +64,7 @@ fn step(sines: &[f64], n: usize, b: Running, x: f64, k: usize) -> Running
 }
 
 // The sums of four bins.
-#[derive(Drop)]
+#[derive(Clone, Copy)]
 pub struct Four {
     pub first: parts::Sums,
     pub second: parts::Sums,
