@@ -1,4 +1,4 @@
--- One sample more among others (`one_more`), and words of all ones: each counts as one more that is no number (`brown-out`). Assumes nothing.
+-- One sample more among others (`one_more`), and words of all ones: each counts as one more that is no number (`brown_out`). Assumes nothing.
 use Prim.Native.Nat.{ℕ, zero, suc, ◌+◌}
 use native.Mathlib.Nat.{zero-add}
 use native.Mathlib.Omega.{arith}

@@ -1,4 +1,4 @@
--- Both counts are 0 exactly when all samples are finite (`zero-exactly`), and together with the finite ones they make the length (`make-length`). Assumes nothing.
+-- Both counts are 0 exactly when all samples are finite (`zero_exactly`), and together with the finite ones they make the length (`make_length`). Assumes nothing.
 use Prim.Native.Nat.{ℕ, suc, ◌+◌}
 use native.Mathlib.Omega.{arith}
 use mathlib.Core.Path.{◌≡◌, refl, subst}

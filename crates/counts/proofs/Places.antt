@@ -1,4 +1,4 @@
--- Each count is the number of such places, of the samples and of their words (`are-places`, `by-pattern`); every capture is that of some words (`of_words`). Assumes nothing.
+-- Each count is the number of such places, of the samples and of their words (`are_places`, `by_pattern`); every capture is that of some words (`of_words`). Assumes nothing.
 use Prim.Native.Nat.{ℕ, suc, ◌+◌, ◌<◌}
 use native.Mathlib.Nat.{zero-add, zero-lt-suc}
 use native.Mathlib.Omega.{arith}

@@ -16,7 +16,7 @@ places_from from test (x ∷ xs) = cond (test x) (from ∷ places_from (suc from
 abbrev pub places_of : {A : Type 0} → (A → Bool) → List A → List ℕ
 places_of test xs = places_from 0 test xs
 
--- each count is the number of such places (`are-places`)
+-- each count is the number of such places (`are_places`)
 abbrev pub ArePlaces : Type 0
 ArePlaces = (xs : List Float) → (not_numbers_of xs ≡ length (places_of is_nan xs)) × (infinite_of xs ≡ length (places_of is_infinite xs))
 
@@ -44,7 +44,7 @@ samples_of words = map (of_bits binary32) words
 abbrev pub OfWords : Type 0
 OfWords = (xs : List Float) → ((k : ℕ) → k < length xs → T (fits binary32 (get_or xs k nan))) → samples_of (map (to_bits binary32) xs) ≡ xs
 
--- each count is the number of places of the words with such a pattern (`by-pattern`)
+-- each count is the number of places of the words with such a pattern (`by_pattern`)
 abbrev pub ByPattern : Type 0
 ByPattern =
     (words : List ℕ)
@@ -58,11 +58,11 @@ AllFinite xs = (k : ℕ) → k < length xs → T (finite (get_or xs k nan))
 abbrev pub BothZero : List Float → Type 0
 BothZero xs = (not_numbers_of xs ≡ 0) × (infinite_of xs ≡ 0)
 
--- both are 0 exactly when all samples are finite (`zero-exactly`)
+-- both are 0 exactly when all samples are finite (`zero_exactly`)
 abbrev pub ZeroExactly : Type 0
 ZeroExactly = (xs : List Float) → (BothZero xs → AllFinite xs) × (AllFinite xs → BothZero xs)
 
--- together with the finite ones they make the length (`make-length`)
+-- together with the finite ones they make the length (`make_length`)
 abbrev pub MakeLength : Type 0
 MakeLength = (xs : List Float) → not_numbers_of xs + infinite_of xs + how_many finite xs ≡ length xs
 
@@ -78,7 +78,7 @@ OneMore =
 abbrev pub all_ones : ℕ
 all_ones = 2 ^ 32 - 1
 
--- n words of all ones among any samples count as n more that are no number, and as none that is infinite (`brown-out`)
+-- n words of all ones among any samples count as n more that are no number, and as none that is infinite (`brown_out`)
 abbrev pub BrownOut : Type 0
 BrownOut =
     (before after : List Float) (n : ℕ)

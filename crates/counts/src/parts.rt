@@ -8,7 +8,7 @@ ghost use Rattle.counts.specs.Counts.{is_infinite, counts_of};
 use passes::parts::tallied;
 
 // How many samples are no number, and how many are infinite.
-#[derive(Drop)]
+#[derive(Clone, Copy, Drop)]
 pub struct Counts {
     pub not_numbers: u32,
     pub infinite: u32,
