@@ -1,6 +1,5 @@
 -- What an edition's number decides, and that orders whose bins are not below half change no THD. Assumes nothing.
-use Rattle.std.proofs.Common.{◌≡◌, ℕ, ◌*◌, ◌/◌, ◌<◌, ◌≤◌, min, Bool, true, false, cond, eqb, ltb, List, length, sym, refl, ap, ◌∙◌, inl, inr, le_refl, arith, lit≤, ltb-false, ltb-true, ne_eqb}
-use lib.Ieee.{Float}
+use Rattle.std.proofs.Common.{◌≡◌, ℕ, ◌*◌, ◌/◌, ◌<◌, ◌≤◌, min, Bool, true, false, cond, eqb, ltb, length, sym, refl, ap, ◌∙◌, inl, inr, le_refl, arith, lit≤, ltb-false, ltb-true, ne_eqb}
 use Rattle.laws.specs.Harmonics.{harmonic_power, last_order, last_up_to}
 use Rattle.laws.proofs.Harmonics.{within}
 use Rattle.spectrum.specs.Bin.{magnitude_of}

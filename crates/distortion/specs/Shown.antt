@@ -1,8 +1,8 @@
 -- Examples, computed from the definitions: what an infinity does to the THD that a signal keeps, by the place where it stands. (The laws are in proofs/Infinite.antt.) Assumes nothing.
-use Rattle.std.specs.Prelude.{◌≡◌, ℕ, true, false, cond, List, [], ◌∷◌, map, ◌==◌, from_bits, refl, Float}
+use Rattle.std.specs.Prelude.{◌≡◌, ℕ, true, false, cond, List, [], ◌∷◌, map, ◌==◌, refl, Float}
 use Rattle.std.specs.Int.Count.{count_trailing_zeros}
 use Rattle.std.specs.Float.{nan, inf}
-use Rattle.std.specs.Float.Ieee.{add, sub, mul, div, neg, sum, round, units, odd, size, span, climb, lt, of_int, of_fields, to_unsigned}
+use Rattle.std.specs.Float.Ieee.{add, sub, mul, div, neg, sum, round, units, odd, size, span, climb, lt, of_int, of_bits, of_fields, to_unsigned}
 use Rattle.laws.specs.Harmonics.{harmonics_of, harmonic_power, last_up_to}
 use Rattle.laws.specs.Literals.{zero32, count32}
 use Rattle.laws.specs.Samples.{square_of}
@@ -33,7 +33,7 @@ pub of_eight :
     ∷ (e ∷ e ∷ e ∷ e ∷ e ∷ e ∷ e ∷ e ∷ []) ∷ (e ∷ zero32 ∷ e ∷ zero32 ∷ e ∷ zero32 ∷ e ∷ zero32 ∷ []) ∷ []
 unfolding thd_of thd_at thd_from usable fundamental_bin square_of harmonics_of harmonic_power last_up_to magnitude_of size_of sums_of sums_to turned angle_of step_of sine_of
     cosine_of quadrant fraction quarter_table narrowed_root narrow root whole_root root_in round_away add sub mul div neg lt sum round units odd size span climb
-    count_trailing_zeros of_int from_bits of_fields to_unsigned
+    count_trailing_zeros of_int of_bits of_fields to_unsigned
 of_eight = refl
 
 -- of 16 samples, at bin 1: each fourth place keeps the THD before
@@ -42,5 +42,5 @@ pub of_sixteen :
     ≡ e ∷ nan ∷ nan ∷ nan ∷ e ∷ nan ∷ nan ∷ nan ∷ e ∷ nan ∷ nan ∷ nan ∷ e ∷ nan ∷ nan ∷ nan ∷ []
 unfolding thd_of thd_at thd_from usable fundamental_bin square_of harmonics_of harmonic_power last_up_to magnitude_of size_of sums_of sums_to turned angle_of step_of sine_of
     cosine_of quadrant fraction quarter_table narrowed_root narrow root whole_root root_in round_away add sub mul div neg lt sum round units odd size span climb
-    count_trailing_zeros of_int from_bits of_fields to_unsigned
+    count_trailing_zeros of_int of_bits of_fields to_unsigned
 of_sixteen = refl
