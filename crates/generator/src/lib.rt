@@ -11,7 +11,7 @@ ghost use Rattle.generator.specs.Sample.{shape_of, generated};
 use answers::{LONGEST, Outcome};
 
 // The waves, by the Rust's names: the cases of its SignalType that are kept.
-#[derive(Drop)]
+#[derive(Clone, Copy, Drop)]
 pub enum Wave {
     DC,
     PWM,
@@ -20,7 +20,7 @@ pub enum Wave {
 }
 
 // What a wave's samples are made from; the phase is in degrees.
-#[derive(Drop)]
+#[derive(Clone, Copy, Drop)]
 pub struct Shape {
     pub wave: Wave,
     pub amplitude: f32,
