@@ -15,7 +15,8 @@ else
 fi
 
 cd ..
-rt staticlib tilljingle
-"$compiler" -std=c99 -Wall -Wextra -Werror -Iinclude examples/probe.c target/staticlib/libtilljingle.a -lm -o target/probe
+mkdir -p target
+(cd crates/tilljingle && rt lib)
+"$compiler" -std=c99 -Wall -Wextra -Werror -Iinclude examples/probe.c crates/tilljingle/out/libtilljingle.a -lm -o target/probe
 ${TILLJINGLE_RUNNER:-} target/probe
 (cd rust && cargo test --offline --target x86_64-unknown-linux-gnu)

@@ -1,10 +1,10 @@
-//! Links the static library that `rt staticlib tilljingle` leaves in the repository's target folder, or the one of the folder TILLJINGLE_LIB.
+//! Links the static library that `rt lib` leaves in the folder out of crates/tilljingle, or the one of the folder TILLJINGLE_LIB.
 
 use std::env::var;
 
 fn main() {
     let root = var("CARGO_MANIFEST_DIR").expect("cargo says where the package is") + "/..";
-    let folder = var("TILLJINGLE_LIB").unwrap_or(root + "/target/staticlib");
+    let folder = var("TILLJINGLE_LIB").unwrap_or(root + "/crates/tilljingle/out");
     println!("cargo:rustc-link-search=native={folder}");
     println!("cargo:rustc-link-lib=static=tilljingle");
     println!("cargo:rustc-link-lib=m"); // fmodf

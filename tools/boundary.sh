@@ -1,16 +1,15 @@
 #!/usr/bin/env bash
 # The C boundary as a caller sees it: builds the static library, compiles the program of tools/boundary against include/tilljingle.h, as C and as C++ with
 # every warning an error, links and runs it. The last line counts the checks; one that is wrong ends it with status 1. Contracts go by the names of fields
-# and parameters, and C by their places: no proof sees the header. Nothing but the kit is needed; on a machine that is not x86-64 its emulator runs the program.
+# and parameters, and C by their places: no proof sees the header. Nothing but the kit is needed.
 set -euo pipefail
 cd "$(dirname "$0")/.."
 command -v rt >/dev/null || { echo "The Rattle kit's command rt is not on the PATH." >&2; exit 2; }
-kit=$(cd "$(dirname "$(rt doc)")/.." && pwd)
-machine=$kit/on/$(uname -m)
-tools=$machine/toolchain
-out=target/boundary archive=target/staticlib/libtilljingle.a
+kit=$(cd "$(dirname "$(rt doc)")" && pwd)
+tools=$kit/toolchain
+out=target/boundary archive=crates/tilljingle/out/libtilljingle.a
 mkdir -p "$out"
-rt staticlib tilljingle >"$out/staticlib.log" 2>&1 || { cat "$out/staticlib.log" >&2; exit 1; }
+(cd crates/tilljingle && rt lib) >"$out/staticlib.log" 2>&1 || { cat "$out/staticlib.log" >&2; exit 1; }
 
 # what the archive exports, the header declares and the checks call; the kit's compiler is its llvm-nm too, by the name that it is called by
 names() { grep -oh '\btj_[a-z0-9_]*(' "$@" | tr -d '(' | sort -u; }
@@ -26,9 +25,8 @@ for file in tools/boundary/*.c; do
   "${compile[@]}" -x c++ -std=c++17 -fsyntax-only "$file"
   objects+=("$object")
 done
-"$machine/bin/rattle-link" --target x86_64-unknown-linux-gnu --toolchain "$tools" -o "$out/boundary" "${objects[@]}" "$archive" \
+"$kit/bin/rattle-link" --target x86_64-unknown-linux-gnu --toolchain "$tools" -o "$out/boundary" "${objects[@]}" "$archive" \
   >"$out/link.log" 2>&1 || { cat "$out/link.log" >&2; exit 1; }
 
 run=("$tools/lib/ld-linux-x86-64.so.2" --library-path "$tools/lib")
-[ "$(uname -m)" = x86_64 ] || run=("$tools/bin/qemu-x86_64" "${run[@]}")
 "${run[@]}" "$out/boundary"

@@ -5,7 +5,6 @@ of the header (of parameters, by a macro around the call; of names, by labels), 
 run on the archive as it is.
 usage: exchanges.py [NAME..]   in the repository's root; the records and calls of these names alone, else all"""
 import itertools
-import os
 import pathlib
 import re
 import shutil
@@ -16,10 +15,10 @@ import tempfile
 if not shutil.which("rt"):
     sys.exit("The Rattle kit's command rt is not on the PATH.")
 HEADER = pathlib.Path("include/tilljingle.h").read_text()
-KIT = pathlib.Path(subprocess.run(["rt", "doc"], capture_output=True, text=True, check=True).stdout.strip()).parent.parent / "on" / os.uname().machine
+KIT = pathlib.Path(subprocess.run(["rt", "doc"], capture_output=True, text=True, check=True).stdout.strip()).parent
 TOOLS = KIT / "toolchain"
 TARGET = "x86_64-unknown-linux-gnu"
-RUN = [TOOLS / "bin/qemu-x86_64"] * (os.uname().machine != "x86_64") + [TOOLS / "lib/ld-linux-x86-64.so.2", "--library-path", TOOLS / "lib"]
+RUN = [TOOLS / "lib/ld-linux-x86-64.so.2", "--library-path", TOOLS / "lib"]
 CHECKS = [path for path in sorted(pathlib.Path("tools/boundary").glob("*.c")) if path.name != "layout.c"]
 
 
@@ -79,7 +78,7 @@ def seen(header, folder):
     objects = [folder / (path.stem + ".o") for path in CHECKS]
     for path, made in zip(CHECKS, objects):
         subprocess.run([TOOLS / "bin/clang", *flags, "-c", path, "-o", made], check=True)
-    link = [KIT / "bin/rattle-link", "--target", TARGET, "--toolchain", TOOLS, "-o", folder / "boundary", *objects, "target/staticlib/libtilljingle.a"]
+    link = [KIT / "bin/rattle-link", "--target", TARGET, "--toolchain", TOOLS, "-o", folder / "boundary", *objects, "crates/tilljingle/out/libtilljingle.a"]
     subprocess.run(link, check=True, capture_output=True)
     return subprocess.run([*RUN, folder / "boundary"], capture_output=True).returncode != 0
 

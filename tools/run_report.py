@@ -1,20 +1,13 @@
 #!/usr/bin/env python3
-"""Runs the report program where no contract reaches, after `rt check report` or `rt ci`: how much of standard input it reads, and what it says where that or
-standard output fails. Each run's standard output and standard error must be, byte for byte, what document 01 and the operating system's texts say.
-It runs with the kit's loader and C library, as `rt` runs it, and on a machine that is not x86-64 under the kit's emulator.
-usage: run_report.py [PROGRAM]   in the repository's root; the program is target/bin/report unless one is named"""
+"""Runs the report program where no contract reaches, after `rt run` in crates/report or after `rt ci`: how much of standard input it reads, and what it says
+where that or standard output fails. Each run's standard output and standard error must be, byte for byte, what document 01 and the operating system's texts say.
+usage: run_report.py [PROGRAM]   in the repository's root; the program is crates/report/out/report unless one is named"""
 import os
-import pathlib
-import platform
 import subprocess
 import sys
 import tempfile
 
-kit = pathlib.Path(subprocess.run(["rt", "doc"], capture_output=True, text=True, check=True).stdout.strip()).parent.parent
-tools = kit / "on" / platform.machine() / "toolchain"
-program = [str(tools / "lib/ld-linux-x86-64.so.2"), "--library-path", str(tools / "lib"), sys.argv[1] if sys.argv[1:] else "target/bin/report"]
-if platform.machine() != "x86_64":
-    program.insert(0, str(tools / "bin/qemu-x86_64"))
+program = sys.argv[1:2] or ["crates/report/out/report"]
 
 
 def line(number, pairs):

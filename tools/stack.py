@@ -1,9 +1,8 @@
 #!/usr/bin/env python3
 """The stack that each export of the x86-64 archive takes, in bytes, read off its code: frames, saved registers and return addresses along the deepest chain of
 calls, and the red zone below a frame where it is used. Records that are passed by value are the caller's, and what memcpy, memset and fmodf take is not counted.
-usage: stack.py [ARCHIVE]   in the repository's root; the archive is that of `rt staticlib tilljingle` unless one is named"""
+usage: stack.py [ARCHIVE]   in the repository's root; the archive is the one that `rt lib` leaves in crates/tilljingle unless one is named"""
 import functools
-import os
 import pathlib
 import re
 import shutil
@@ -12,10 +11,10 @@ import sys
 
 if not shutil.which("rt"):
     sys.exit("The Rattle kit's command rt is not on the PATH.")
-archive = sys.argv[1] if sys.argv[1:] else "target/staticlib/libtilljingle.a"
+archive = sys.argv[1] if sys.argv[1:] else "crates/tilljingle/out/libtilljingle.a"
 guide = subprocess.run(["rt", "doc"], capture_output=True, text=True, check=True).stdout.strip()
 # the kit's compiler is the disassembler too, by the name that it is called by; a machine's own may not know x86-64
-compiler = pathlib.Path(guide).parent.parent / "on" / os.uname().machine / "toolchain/bin/clang"
+compiler = pathlib.Path(guide).parent / "toolchain/bin/clang"
 read = subprocess.run(["llvm-objdump", "-dr", "-M", "intel", "--no-show-raw-insn", archive], executable=compiler, capture_output=True, text=True)
 listing = read.stdout
 if read.returncode or "elf64-x86-64" not in listing:

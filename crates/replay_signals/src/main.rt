@@ -4,6 +4,8 @@
 
 use replaying::files;
 use replaying::files::{LARGEST, Tally};
+use std::io;
+use std::rt::Files;
 
 mod cases;
 mod of_held;
@@ -22,21 +24,21 @@ fn replay(text: &[u8], before: Tally) -> Tally {
 }
 
 // The same of a file, read into this room.
-fn file_in(room: &mut [u8], name: &[u8], before: Tally) -> Tally {
-    let n = files::load(name, room);
+fn file_in<R: Files + Eprint>(rt: &R, room: &mut [u8], name: &str, before: Tally) -> Tally {
+    let n = files::load(rt, name, room);
     replay(&room[..n], before)
 }
 
-fn file(name: &[u8], before: Tally) -> Tally {
-    file_in(&mut [0u8; LARGEST], name, before)
+fn file<R: Files + Eprint>(rt: &R, name: &str, before: Tally) -> Tally {
+    file_in(rt, &mut [0u8; LARGEST], name, before)
 }
 
-fn right() -> Tally {
-    let tally = file(b"signal", files::none());
-    let tally = file(b"held", tally);
-    file(b"signal_limits", tally)
+fn right<R: Files + Eprint>(rt: &R) -> Tally {
+    let tally = file(rt, "signal", files::none());
+    let tally = file(rt, "held", tally);
+    file(rt, "signal_limits", tally)
 }
 
-fn main() {
-    files::print(right(), file(b"wrong", files::none()));
+fn main(rt: HostRuntime) -> io::Result<()> {
+    files::print(&rt, right(&rt), file(&rt, "wrong", files::none()))
 }

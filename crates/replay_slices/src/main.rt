@@ -4,6 +4,8 @@
 
 use replaying::files;
 use replaying::files::{LARGEST, Tally};
+use std::io;
+use std::rt::Files;
 
 mod cases;
 mod of_fundamental;
@@ -28,27 +30,27 @@ fn replay(text: &[u8], before: Tally) -> Tally {
 }
 
 // The same of a file, read into this room.
-fn file_in(room: &mut [u8], name: &[u8], before: Tally) -> Tally {
-    let n = files::load(name, room);
+fn file_in<R: Files + Eprint>(rt: &R, room: &mut [u8], name: &str, before: Tally) -> Tally {
+    let n = files::load(rt, name, room);
     replay(&room[..n], before)
 }
 
-fn file(name: &[u8], before: Tally) -> Tally {
-    file_in(&mut [0u8; LARGEST], name, before)
+fn file<R: Files + Eprint>(rt: &R, name: &str, before: Tally) -> Tally {
+    file_in(rt, &mut [0u8; LARGEST], name, before)
 }
 
-fn right() -> Tally {
-    let tally = file(b"number", files::none());
-    let tally = file(b"samples", tally);
-    let tally = file(b"timing", tally);
-    let tally = file(b"power", tally);
-    let tally = file(b"spectrum", tally);
-    let tally = file(b"quality", tally);
-    let tally = file(b"generator", tally);
-    let tally = file(b"fundamental", tally);
-    file(b"limits", tally)
+fn right<R: Files + Eprint>(rt: &R) -> Tally {
+    let tally = file(rt, "number", files::none());
+    let tally = file(rt, "samples", tally);
+    let tally = file(rt, "timing", tally);
+    let tally = file(rt, "power", tally);
+    let tally = file(rt, "spectrum", tally);
+    let tally = file(rt, "quality", tally);
+    let tally = file(rt, "generator", tally);
+    let tally = file(rt, "fundamental", tally);
+    file(rt, "limits", tally)
 }
 
-fn main() {
-    files::print(right(), file(b"wrong", files::none()));
+fn main(rt: HostRuntime) -> io::Result<()> {
+    files::print(&rt, right(&rt), file(&rt, "wrong", files::none()))
 }

@@ -1,9 +1,10 @@
 // The files of cases, the lines in them, and the count.
-ghost use Rattle.std.specs.Prelude.{◌<◌, ◌≤◌, length};
-ghost use Rattle.io.specs.Counts.{IsPrefixLen};
+ghost use Rattle.std.specs.Prelude.{◌≡◌, ◌<◌, ◌≤◌, length, take};
 
 use crate::read;
-use libc::STDOUT_FILENO;
+use std::io::Read;
+use std::rt::Files;
+use std::{fs, io};
 
 // The most bytes of a file.
 pub const LARGEST: usize = 262144;
@@ -49,29 +50,57 @@ pub fn line_end(cases: &[u8], at: usize) -> usize
     at + read::least(line_size(&cases[at..]), cases.len() - at)
 }
 
-// Reads a file; how many bytes of the room it takes.
-pub fn load(name: &[u8], room: &mut [u8]) -> usize
-    ensures { IsPrefixLen result room.new }
-{
-    let file = os::open_read(name);
-    if file < 0 {
-        os::fail(name);
-        return 0;
-    }
-    let n = io::read_full(file, room);
-    libc::close(file);
-    n
+// Tells what could not be read and why.
+fn fail<R: Eprint>(rt: &R, name: &str, error: io::Error) {
+    let _ = eprintln!(rt; "{name}: {error}");
 }
 
-fn print_line(t: Tally, cases: &[u8]) {
-    io::print_decimal(STDOUT_FILENO, t.cases);
-    io::write_all(STDOUT_FILENO, cases);
-    io::print_decimal(STDOUT_FILENO, t.differ);
-    io::write_all(STDOUT_FILENO, b" differences\n");
+// Reads a file until the room is full, the file ends or a read fails; how many bytes of the room it takes.
+fn read_full<R: Files + Eprint>(rt: &R, name: &str, file: R::File, room: &mut [u8]) -> usize
+    ensures within { result ≤ length room.new }
+    ensures first { result ≡ length (take result room.new) }
+{
+    let mut file = file;
+    let mut done = 0usize;
+    for _ in 0..u64::MAX {
+        match file.read(&mut room[done..]) {
+            Ok(n) => {
+                if n == 0 {
+                    break;
+                }
+                done += n;
+            }
+            Err(error) => {
+                fail(rt, name, error);
+                break;
+            }
+        }
+    }
+    done
+}
+
+// Reads a file; how many bytes of the room it takes.
+pub fn load<R: Files + Eprint>(rt: &R, name: &str, room: &mut [u8]) -> usize
+    ensures within { result ≤ length room.new }
+    ensures first { result ≡ length (take result room.new) }
+{
+    match fs::open(rt, name) {
+        Ok(file) => read_full(rt, name, file, room),
+        Err(error) => {
+            fail(rt, name, error);
+            0
+        }
+    }
+}
+
+fn print_line<R: Print>(rt: &R, t: Tally, cases: &str) -> io::Result<()> {
+    let some = t.cases;
+    let differ = t.differ;
+    println!(rt; "{some}{cases}{differ} differences")
 }
 
 // How many cases there were and how many answers differ; and the same of the cases with a wrong answer.
-pub fn print(cases: Tally, wrong: Tally) {
-    print_line(cases, b" cases, ");
-    print_line(wrong, b" wrong cases, ");
+pub fn print<R: Print>(rt: &R, cases: Tally, wrong: Tally) -> io::Result<()> {
+    print_line(rt, cases, " cases, ")?;
+    print_line(rt, wrong, " wrong cases, ")
 }
