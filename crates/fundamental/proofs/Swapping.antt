@@ -1,5 +1,5 @@
 -- Swapping voltage and current: the outcome and the active figure stay, the reactive one is negated, or is +0 both times. On every input. Assumes nothing.
-use Rattle.std.proofs.Common.{◌≡◌, ℕ, zero, suc, ◌+◌, ◌*◌, ◌/◌, ◌^◌, ◌<◌, ◌≤◌, Bool, true, false, not, ◌&&◌, T, eqb, ltb, List, length, pos, negsuc, sym, refl, ap, ◌∙◌, subst, inl, inr, le_trans, arith, pow_mono, ltb-false, ltb-true, eq-eqb, ne_eqb, eqb-true}
+use Rattle.std.proofs.Common.{◌≡◌, ℕ, zero, suc, ◌*◌, ◌/◌, ◌^◌, ◌<◌, ◌≤◌, Bool, true, false, not, ◌&&◌, T, eqb, ltb, List, length, pos, negsuc, sym, refl, ap, ◌∙◌, subst, inl, inr, le_trans, arith, pow_mono, ltb-false, ltb-true, eq-eqb, ne_eqb, eqb-true}
 use lib.Count.{count_trailing_zeros}
 use lib.Ieee.{Float, nan, inf, fin, binary32, binary64, up, down, round, units, odd, size, span, climb, neg, sub, mul, div, of_int, of_bits, of_fields}
 use borrow.Author.Tests.{eqb-false}

@@ -2,7 +2,7 @@
 use Rattle.std.specs.Prelude.{◌≡◌, ℕ, List, [], ◌∷◌, map, from_bits, refl, Float}
 use Rattle.std.specs.Int.Count.{count_trailing_zeros}
 use Rattle.std.specs.Float.{binary32}
-use Rattle.std.specs.Float.Ieee.{add, sub, mul, div, neg, sum, round, units, odd, size, span, climb, of_int, of_fields}
+use Rattle.std.specs.Float.Ieee.{add, sub, mul, div, neg, sum, round, units, odd, size, span, climb, of_int, of_bits, of_fields}
 use Rattle.answers.specs.Numbers.{number_of, if_done}
 use Rattle.number.specs.Number.{narrow}
 use Rattle.quarter.specs.Table.{quarter_table}
@@ -85,5 +85,5 @@ wanted r = (r.number, floats r.figures)
 
 pub rows_hold : map answer_to rows ≡ map wanted rows
 unfolding fundamental_answer fundamental_outcome fundamental_of fundamental_figures scaled_of in_phase across if_done on_grid lengths sums_of sums_to turned angle_of step_of sine_of
-    cosine_of quadrant fraction quarter_table narrow add sub mul div neg sum round units odd size span climb count_trailing_zeros of_int from_bits of_fields
+    cosine_of quadrant fraction quarter_table narrow add sub mul div neg sum round units odd size span climb count_trailing_zeros of_int of_bits of_fields
 rows_hold = refl

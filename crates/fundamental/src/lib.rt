@@ -11,7 +11,7 @@ ghost use Rattle.fundamental.specs.Fundamental.{scaled_of, fundamental_figures, 
 use answers::{LONGEST, Outcome};
 use spectrum::parts::{NO_SUMS, Sums, on_grid, turn};
 
-#[derive(Drop)]
+#[derive(Clone, Copy)]
 pub struct FundamentalPower {
     pub active: f32,
     pub reactive: f32,
@@ -24,7 +24,7 @@ pub const ZERO: FundamentalPower = FundamentalPower {
 };
 
 // How the call ended, and the two figures.
-#[derive(Drop)]
+#[derive(Clone, Copy)]
 pub struct FundamentalAnswer {
     pub outcome: Outcome,
     pub power: FundamentalPower,
@@ -54,7 +54,7 @@ fn judged(volts: usize, amps: usize, bin: usize) -> Outcome
 }
 
 // The sums of one bin, of the voltage and of the current.
-#[derive(Drop)]
+#[derive(Clone, Copy)]
 pub struct Both {
     pub voltage: Sums,
     pub current: Sums,
