@@ -30,7 +30,7 @@ pub fn mean(total: f64, n: usize) -> f32
 }
 
 // The rising crossings so far: how many, and the places of the first and the last.
-#[derive(Drop)]
+#[derive(Clone, Copy, Drop)]
 pub struct Crossings {
     pub count: usize,
     pub first: usize,
