@@ -1,6 +1,6 @@
 -- The number that the code keeps stands for the Rust's two flags: each of its four steps is the test of the definition, and so are all of them over the samples. Assumes nothing.
 use Prim.Native.Nat.{ℕ, zero, suc, ◌+◌, ◌-◌}
-use mathlib.Core.Path.{◌≡◌, refl, sym, ap, ◌∙◌}
+use mathlib.Core.Path.{◌≡◌, refl, ap, ◌∙◌}
 use mathlib.Core.Bool.{Bool, true, false, cond, ◌&&◌}
 use mathlib.Core.List.{List}
 use lib.Dec.{eqb}
@@ -8,7 +8,7 @@ use lib.ListN.{length, get_or}
 use lib.Ieee.{Float, nan, lt, le}
 use Rattle.laws.specs.Walks.{pairs}
 use Rattle.figures.specs.declared.edges.Edges.{Edges}
-use Rattle.figures.specs.Edges.{RiseFall, nothing_yet, rise_starts, rise_grows, fall_starts, fall_grows, four_tests, rise_fall_of, rise_fall_between, sample_time_of, edge_time_of, rise_number, fall_number}
+use Rattle.figures.specs.Edges.{RiseFall, nothing_yet, rise_starts, rise_grows, fall_starts, fall_grows, four_tests, rise_fall_of, rise_fall_between, edge_time_of, rise_number, fall_number}
 use Rattle.figures.specs.Edges.{no_edge, rise_begins, rise_counts, fall_begins, fall_counts, edge_at, edges_of, edges_between, low_threshold, high_threshold, times_of}
 
 -- what the number says of the flags

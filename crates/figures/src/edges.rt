@@ -7,7 +7,7 @@ use number::parts::counted;
 
 // Which edge is under way (0 none, RISE or FALL), and how many samples the last of each kind has so far.
 // (A number and no bools: a struct with padding, by value in a loop, is copied through the stack at each turn.)
-#[derive(Drop)]
+#[derive(Clone, Copy, Drop)]
 pub struct Edges {
     pub edge: usize,
     pub rise: usize,
@@ -123,7 +123,7 @@ fn sample_time(frequency: f32, n: usize) -> f32
 }
 
 // How long the last rise and the last fall took.
-#[derive(Drop)]
+#[derive(Clone, Copy, Drop)]
 pub struct Times {
     pub rise: f32,
     pub fall: f32,

@@ -9,7 +9,7 @@ ghost use Rattle.figures.specs.Levels.{extremes_of, level_sums, ripple_of, level
 use passes::parts::{lowered, raised};
 use timing::parts::mean;
 
-#[derive(Drop)]
+#[derive(Clone, Copy, Drop)]
 pub struct Extremes {
     pub max: f32,
     pub min: f32,
@@ -50,7 +50,7 @@ fn find_extremes(samples: &[f32]) -> Extremes
 }
 
 // Of the samples, their squares and their sizes.
-#[derive(Drop)]
+#[derive(Clone, Copy, Drop)]
 pub struct Sums {
     pub total: f64,
     pub squares: f64,
@@ -106,7 +106,7 @@ fn ripple(samples: &[f32], average: f32) -> f64
     squares
 }
 
-#[derive(Drop)]
+#[derive(Clone, Copy, Drop)]
 pub struct Levels {
     pub max: f32,
     pub min: f32,

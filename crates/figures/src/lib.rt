@@ -16,7 +16,7 @@ use generator::Wave;
 
 // The fields of the Rust's SignalMetrics in its order, without those of the spectrum; then the two counts.
 #[repr(C)]
-#[derive(Drop)]
+#[derive(Clone, Copy, Drop)]
 pub struct TimeFigures {
     pub peak_to_peak: f32,
     pub max: f32,
@@ -67,7 +67,7 @@ pub const ZERO_FIGURES: TimeFigures = TimeFigures {
 };
 
 // The figures, and how the call ended.
-#[derive(Drop)]
+#[derive(Clone, Copy, Drop)]
 pub struct TimeAnswer {
     pub outcome: Outcome,
     pub figures: TimeFigures,

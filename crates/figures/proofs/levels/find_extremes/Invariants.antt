@@ -1,0 +1,15 @@
+-- `figures::levels::find_extremes` meets its contract. The loop's invariant: what is worked out is that of the first k samples. Assumes nothing.
+use mathlib.Core.Path.{◌≡◌}
+use mathlib.Core.Bool.{true, false}
+use Prim.Native.Nat.{◌≤◌, ◌-◌}
+use lib.ListN.{length}
+use lib.Ieee.{inf}
+use Rattle.laws.specs.Walks.{over}
+use Rattle.laws.specs.Samples.{higher, lower}
+use Rattle.figures.proofs.levels.find_extremes.Given as goal
+
+abbrev pub invariant-loop-k : goal.invariant-loop-k
+invariant-loop-k l = (l.k ≤ length l.samples) × (l.max ≡ over higher (inf true) l.samples l.k) × (l.min ≡ over lower (inf false) l.samples l.k)
+
+abbrev pub decreases-loop-k : goal.decreases-loop-k
+decreases-loop-k l = length l.samples - l.k
