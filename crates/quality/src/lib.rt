@@ -13,27 +13,27 @@ use answers::{Measured, Outcome, UNMEASURED};
 use verdict::{Verdict, judge};
 
 // What SNR and SINAD hand to the logarithm.
-#[derive(Drop)]
+#[derive(Clone, Copy)]
 pub enum Quotient {
     Ratio(f64),
     UnusableBin,
 }
 
-#[derive(Drop)]
+#[derive(Clone, Copy)]
 pub struct QuotientAnswer {
     pub outcome: Outcome,
     pub quotient: Quotient,
 }
 
 // What SFDR hands to the logarithm.
-#[derive(Drop)]
+#[derive(Clone, Copy)]
 pub enum Sfdr {
     Ratio(f32),
     NoSpur,
     UnusableBin,
 }
 
-#[derive(Drop)]
+#[derive(Clone, Copy)]
 pub struct SfdrAnswer {
     pub outcome: Outcome,
     pub quotient: Sfdr,

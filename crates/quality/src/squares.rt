@@ -16,7 +16,7 @@ pub fn square(x: f32) -> f64
 const BLOCK: usize = 64;
 
 // A sum so far, and the order that comes next.
-#[derive(Drop)]
+#[derive(Clone, Copy)]
 pub struct Tally {
     pub sum: f64,
     pub order: usize,

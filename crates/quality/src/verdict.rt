@@ -5,7 +5,7 @@ ghost use Rattle.quality.specs.Quality.{unusable_bin};
 
 use answers::LONGEST;
 
-#[derive(Drop)]
+#[derive(Clone, Copy)]
 pub enum Verdict {
     Refused,
     Unusable,
