@@ -1,36 +1,179 @@
 #!/usr/bin/env python3
-"""Says why each must-fail edit was refused, after `rt must-fail` or `rt ci`: its label and the first error of its log.
-An edit after which a need of the proof has no name any more, or has another's place, or a place of the code is not where the proof looks for it,
-only made the proof unfit for the code and shows nothing: such a one is marked WEAK, and the program ends with status 1. An edit with
-lines '# refuses: F G ..' makes one wrong change in each of these functions, or one that each of these laws is about, and is WEAK unless each was refused.
-An edit whose log has no error, or that has no log, counts as WEAK too. Logs of an earlier run are not told from those of the last.
+"""Says why each must-fail edit is refused: its label and the first error of a check of its crate with the edit. `rt must-fail` and `rt ci` ask whether an edit is
+refused at all; here a copy of the repository is checked with each edit, crate by crate, as many side by side as there are processors.
+An edit after which a goal of the proof has no name any more, or a place of the code is not where the proof looks for it, and nothing else is wrong, only made
+the proof unfit for the code and shows nothing: such a one is marked WEAK, and the program ends with status 1. An edit with lines '# refuses: F G ..' makes one
+wrong change in each of these functions, or one that each of these laws is about, and is WEAK unless each was refused for itself: by a goal of its own, and not
+only because a function that it calls was, or because a name is gone. One that isn't is tried again with its own wrong program alone, and then with the names of
+its goals in its proof as they are after the change, place by place: a goal is named after the code that it stands at, and so a changed test renames it. An edit
+that is still proved, or cannot be applied or read, is WEAK too.
 Whether the changed program is a wrong one is for whoever writes the edit to see: another right program may be refused just as well.
-usage: refusals.py [CRATE..]   in the repository's root"""
+usage: refusals.py [CRATE..]   in the repository's root; the edits of these crates alone, else all"""
+import concurrent.futures
+import difflib
+import os
 import pathlib
 import re
+import shutil
+import subprocess
 import sys
+import tempfile
 
-WEAK = re.compile(r"that can be named from here|\.Lts\.\S+` has no field|this pattern needs a function \(or path\) type|expected type `tie\.Need-")
-weak = 0
-for path in sorted(pathlib.Path("crates").glob("*/must-fail/*.edit")):
-    crate, label = path.parts[1], path.stem
-    if sys.argv[1:] and crate not in sys.argv[1:]:
-        continue
-    log = pathlib.Path("target/must-fail", crate, label, ".log")
-    if not log.exists():
-        weak += 1
-        print(f"WEAK {crate}/{label}: not tried")
-        continue
-    text = log.read_text(encoding="utf-8", errors="replace")
-    errors = re.findall(r"^\S*?/([^/\s]+/[^/\s]+):\d+:\d+: error: (.*)$", text, re.M)
-    errors += re.findall(r"^fn (\S+): no proof: .*; (`search` does not close .*)$", text, re.M)
-    errors.sort(key=lambda error: "was not admitted" in error[1])  # a caller's, last
-    named = re.findall(r"^# refuses: (.*)$", path.read_text(encoding="utf-8"), re.M)
-    # refused for itself, and not only because a function that it calls was
-    own = r"^fn \S*::{0}: (?:not proved$|no proof: .*does not close)|/(?:{0}/Proof\.antt:\d+:\d+: error: |\w+\.antt:\d+:\d+: error: `{0}`: )(?!.*was not admitted)"
-    passed = [f for f in " ".join(named).split() if not re.search(own.format(f), text, re.M)]
-    mark = "WEAK" if WEAK.search(re.sub(r"\s+", " ", text)) or passed or not errors else "ok"
-    weak += mark == "WEAK"
-    where, why = errors[0] if errors else ("", "no error was found in the log")
-    print(f"{mark:4} {crate}/{label}: {where}: {why[:160]}" + (f" NOT REFUSED: {' '.join(passed)}" if passed else ""))
-sys.exit(1 if weak else 0)
+NAMES = re.compile(r"# (?!refuses:)[a-z0-9_]+(?:, [a-z0-9_]+)*: ")
+LOST = re.compile(r"that can be named from here|has no field|is not in scope|was not admitted|has no `|this pattern needs a function \(or path\) type")
+ERROR = re.compile(r"^(?:\./)?((?:proofs|specs)/\S+\.antt):\d+:\d+: error: (.*)$", re.M)
+OPEN = re.compile(r"^note: src/\S+:\d+:\d+: (.*)$")
+
+
+def programs_of(text):
+    """The wrong programs of an edit, each as the functions and laws that it must be refused for and its changes: file, old text, new text."""
+    programs, path, old = [([], [])], None, None
+    for line in text.split("\n"):
+        if NAMES.match(line) and any(programs[-1]):
+            programs.append(([], []))
+        elif line.startswith("# refuses: "):
+            programs[-1][0].extend(line[11:].split())
+        elif line.startswith("file: "):
+            path = line[6:].strip()
+        elif line.startswith("old: "):
+            old = line[5:]
+        elif line.startswith("new:"):
+            programs[-1][1].append((path, old, line[4:][line.startswith("new: "):]))
+    return programs
+
+
+def changed(folder, changes):
+    """The texts of the files that these changes touch, or None where one of them cannot be applied."""
+    texts = {}
+    for path, old, new in changes:
+        if path not in texts:
+            texts[path] = (folder / path).read_text(encoding="utf-8")
+        if texts[path].count(old) != 1:
+            return None
+        texts[path] = texts[path].replace(old, new)
+    return texts
+
+
+def check(folder, texts, *flags):
+    """Status and output of a check of the crate with these texts in place of its own."""
+    had = {path: (folder / path).read_text(encoding="utf-8") for path in texts}
+    for path, text in texts.items():
+        (folder / path).write_text(text, encoding="utf-8")
+    said = subprocess.run(["rt", "check", *(flags or ("--jobs", "1"))], cwd=folder, stdin=subprocess.DEVNULL, capture_output=True, text=True, errors="replace")
+    for path, text in had.items():
+        (folder / path).write_text(text, encoding="utf-8")
+    return said.returncode, said.stdout + said.stderr
+
+
+def names_of(folder, function, texts):
+    """Folder in proofs/, and the names of goals and facts in the order of the code, of a function of the crate with these texts; None if it has none."""
+    with tempfile.TemporaryDirectory(prefix="refusals-") as room:
+        check(folder, texts, "--generated", room)
+        for goals in pathlib.Path(room).glob(f"*-proofs/**/{function}/Goals.antt"):
+            lts = goals.with_name("Lts.antt")
+            read = goals.read_text(encoding="utf-8") + (lts.read_text(encoding="utf-8") if lts.exists() else "")
+            return pathlib.Path("proofs", *goals.relative_to(room).parts[1:-1]), re.findall(r"^ *(?:abbrev )?pub (\S+) :", read, re.M)
+    return None
+
+
+def renamed(folder, function, texts):
+    """These texts, and the function's proof with the names of goals and facts as they are with them."""
+    before, after = names_of(folder, function, {}), names_of(folder, function, texts)
+    if not before or not after:
+        return None
+    now = {}
+    for _, a, b, c, d in difflib.SequenceMatcher(None, before[1], after[1], autojunk=False).get_opcodes():
+        if b - a == d - c:
+            for old, new in zip(before[1][a:b], after[1][c:d]):
+                now.setdefault(old, new)
+    more = {}
+    for path in (folder / before[0]).glob("*.antt"):
+        inner = str(path.relative_to(folder))
+        text = texts.get(inner, path.read_text(encoding="utf-8"))
+        more[inner] = re.sub(r"(?<![\w'-])[\w'-]+(?![\w'-])", lambda word: now.get(word[0], word[0]), text)
+    return {**texts, **more}
+
+
+def errors_of(text):
+    """What was refused: where, and why; first what says something of the contract."""
+    found, waiting = [], []
+    for line in text.split("\n"):
+        if OPEN.match(line):
+            waiting.append(OPEN.match(line)[1])
+        elif re.match(r"fn \S+: ", line):
+            name = line[3:].split(": ")[0]
+            found += [(name, why) for why in waiting]
+            if not waiting and re.search(r": no proof: .*`search` did not prove", line):
+                found.append((name, line.split(": no proof: ")[1]))
+            waiting = []
+    found += [(path, re.sub(r"\s+", " ", why)) for path, why in ERROR.findall(text)]
+    return sorted(found, key=lambda error: bool(LOST.search(error[1])))
+
+
+def is_own(name, error):
+    """Whether this error refuses the function or law of this name for itself."""
+    where, why = error
+    name = re.escape(name)
+    own = re.search(rf"::{name}$|/{name}/\w+\.antt$", where) or re.match(rf"`{name}`: ", why)
+    return bool(own) and not LOST.search(why)
+
+
+def judged(folder, path):
+    """Mark, edit, and why it is refused."""
+    programs = programs_of(path.read_text(encoding="utf-8"))
+    texts = changed(folder, [change for _, changes in programs for change in changes])
+    if texts is None:
+        return "WEAK", path, ": it cannot be applied"
+    status, said = check(folder, texts)
+    errors = errors_of(said)
+    if status != 1 or not said.rstrip().split("logic=")[-1].startswith("not-proved"):
+        return "WEAK", path, f": the check ends with status {status}: {' '.join(said.split())[-300:]}"
+    real = [error for error in errors if not LOST.search(error[1])]
+    passed = []
+    for names, changes in programs:
+        left = [name for name in names if not any(is_own(name, error) for error in errors)]
+        alone = changed(folder, changes) if left else None
+        if alone and len(programs) > 1:
+            found = errors_of(check(folder, alone)[1])
+            left = [name for name in left if not any(is_own(name, error) for error in found)]
+        for name in left:
+            by_name = renamed(folder, name, alone) if alone else None
+            if not by_name or not any(is_own(name, error) for error in errors_of(check(folder, by_name)[1])):
+                passed.append(name)
+    where, why = (errors or [("", "no error was found")])[0]
+    return "ok" if real and not passed else "WEAK", path, f": {where}: {why[:160]}" + (f" NOT REFUSED: {' '.join(passed)}" if passed else "")
+
+
+def tried(folder, edits):
+    status, said = check(folder, {})
+    if status:
+        return [("WEAK", path, f": the crate is not proved without it: {' '.join(said.split())[-300:]}") for path in edits]
+    return [judged(folder, path) for path in edits]
+
+
+def main():
+    edits = {}
+    for path in sorted(pathlib.Path("crates").glob("*/must-fail/*.edit")):
+        if not sys.argv[1:] or path.parts[1] in sys.argv[1:]:
+            edits.setdefault(path.parts[1], []).append(path)
+    with tempfile.TemporaryDirectory(prefix="refusals-") as room:
+        copy = pathlib.Path(room)
+        shutil.copy("crates.txt", copy)
+        for crate in pathlib.Path("crates").iterdir():
+            for part in ("src", "specs", "proofs"):
+                if (crate / part).is_dir():
+                    shutil.copytree(crate / part, copy / crate / part)
+        with concurrent.futures.ThreadPoolExecutor(os.cpu_count()) as pool:
+            order = sorted(edits, key=lambda crate: -len(edits[crate]))
+            found = dict(zip(order, pool.map(lambda crate: tried(copy / "crates" / crate, edits[crate]), order)))
+    weak = 0
+    for crate in sorted(found):
+        for mark, path, why in found[crate]:
+            weak += mark == "WEAK"
+            print(f"{mark:4} {crate}/{path.stem}{why}")
+    print(f"{sum(len(them) for them in found.values())} edits, {weak} weak")
+    return 1 if weak else 0
+
+
+if __name__ == "__main__":
+    sys.exit(main())
