@@ -23,8 +23,8 @@ use Rattle.distortion.proofs.ByEdition.{over_known, over_unknown, by_either, by_
 use Rattle.signal.specs.declared.State.{State}
 use Rattle.signal.specs.State.{zero_state, fresh, with_phase, with_duty, with_measured, silenced, as_port, metrics_of}
 use Rattle.signal.specs.Calls.{SignalLeft, answer, unless_refused, made, remade, ported, reset_of}
-use Rattle.signal.specs.Sequence.{Setting, phase, duty, Later, setting, reset, next, run}
-use Rattle.signal.specs.Editions.{remade_by, new_by, edition_in, outcome_by, next_by, run_by}
+use Rattle.signal.specs.Sequence.{phase, duty, Later, setting, reset, next, run}
+use Rattle.signal.specs.Editions.{remade_by, new_by, edition_in, outcome_by, next_by}
 use Rattle.signal.specs.InEdition.{edition_after, EndsNew, EndsPort, EndsSet, EndsReset, NineThen, NineOnly, RefusedNew, RefusedPort, RefusedSet, ZeroEdition}
 use Rattle.signal.specs.InEdition.{KnownNew, KnownPort, KnownRun, ThdNew, ThdSet, PortMetrics, EditionKept, NamedNew, NamedPort}
 use Rattle.signal.proofs.Ends.{chain, refused, taken}

@@ -16,7 +16,7 @@ use port::{Port, Reading};
 
 // What is measured of a signal: the time figures with their two counts, and THD. Its orders go as high as the edition says, 1 or 2. A `new` that was refused
 // has 0, and a caller may write any number: where THD is worked out these are refused.
-#[derive(Drop)]
+#[derive(Clone, Copy, Drop)]
 pub struct Metrics {
     pub figures: TimeFigures,
     pub thd: f32,
@@ -24,7 +24,7 @@ pub struct Metrics {
 }
 
 // What a signal keeps, its samples apart.
-#[derive(Drop)]
+#[derive(Clone, Copy, Drop)]
 pub struct State {
     pub shape: Shape,
     pub port: Port,
@@ -32,7 +32,7 @@ pub struct State {
 }
 
 // How a call ended, and the state.
-#[derive(Drop)]
+#[derive(Clone, Copy, Drop)]
 pub struct Answer {
     pub outcome: Outcome,
     pub state: State,
