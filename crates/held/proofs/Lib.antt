@@ -1,18 +1,3 @@
--- The walks. Assumes nothing.
-pub mod Again
-pub mod ByValue
-pub mod Lent
-pub mod Step
-pub mod Bare
-pub mod Made
-pub mod PortIn
-pub mod PortStep
-pub mod PortBare
-pub mod PortTwo
-pub mod PortFour
-pub mod Inside
-pub mod Read
-pub mod ReadAt
-pub mod Spent
+-- What a held signal keeps through calls in a row. Assumes nothing.
 pub mod Sequence
 pub mod Kept

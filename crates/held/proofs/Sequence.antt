@@ -5,7 +5,7 @@ use mathlib.Core.Path.{◌≡◌, ◌∙◌, ap}
 use mathlib.Core.List.{List}
 use Prim.Native.Nat.{ℕ}
 use lib.Ieee.{Float}
-use denote.Ref.{Bor}
+use denote.Ref.{MutBor}
 use Rattle.generator.specs.declared.Wave.{Wave}
 use Rattle.signal.specs.Calls.{SignalLeft, reset_of}
 use Rattle.signal.specs.Editions.{new_by, phase_by, duty_by}
@@ -36,8 +36,8 @@ module _ (wave : Wave) (amplitude frequency : Float) (edition : ℕ) (duty phase
   abbrev reset : Signal → Signal
   reset s = after s (reset_of s.answer.state s.samples.now)
 
-  pub set_twice : (x : Bor (List Float)) (s₀ s₁ s₂ : Signal) → s₀ ≡ beside x (made x.now) → s₁ ≡ with_duty_lem s₀ → s₂ ≡ with_phase_lem s₁ → s₂ ≡ beside x (phased x.now)
+  pub set_twice : (x : MutBor (List Float)) (s₀ s₁ s₂ : Signal) → s₀ ≡ beside x (made x.now) → s₁ ≡ with_duty_lem s₀ → s₂ ≡ with_phase_lem s₁ → s₂ ≡ beside x (phased x.now)
   set_twice x s₀ s₁ s₂ e₀ e₁ e₂ = e₂ ∙ ap with_phase_lem (e₁ ∙ ap with_duty_lem e₀)
 
-  pub set_and_reset : (x : Bor (List Float)) (s₀ s₁ s₂ s₃ : Signal) → s₀ ≡ beside x (made x.now) → s₁ ≡ with_duty_lem s₀ → s₂ ≡ with_phase_lem s₁ → s₃ ≡ reset s₂ → s₃ ≡ beside x (emptied x.now)
+  pub set_and_reset : (x : MutBor (List Float)) (s₀ s₁ s₂ s₃ : Signal) → s₀ ≡ beside x (made x.now) → s₁ ≡ with_duty_lem s₀ → s₂ ≡ with_phase_lem s₁ → s₃ ≡ reset s₂ → s₃ ≡ beside x (emptied x.now)
   set_and_reset x s₀ s₁ s₂ s₃ e₀ e₁ e₂ e₃ = e₃ ∙ ap reset (set_twice x s₀ s₁ s₂ e₀ e₁ e₂)

@@ -1,6 +1,6 @@
 -- What a held signal keeps through every call on it (02, e). Definitions only; the claims are proved in proofs/Kept.antt.
 use Rattle.std.specs.Prelude.{ℕ, ◌≡◌, List, [], ◌∷◌, Float}
-use Rattle.std.specs.Borrow.{Bor}
+use denote.Ref.{MutBor}
 use Rattle.answers.specs.Left.{left}
 use Rattle.answers.specs.Numbers.{number_of}
 use Rattle.generator.specs.declared.Wave.{Wave}
@@ -47,12 +47,12 @@ EditionHeld = (s : Signal) (cs : List Call) → edition_held (all_called s cs) �
 -- and so, of a signal that was made, the one that was named (`named-held`, `named-port-held`)
 abbrev pub NamedHeld : Type 0
 NamedHeld =
-    (x : Bor (List Float)) (kind : Wave) (amplitude frequency : Float) (edition : ℕ) (cs : List Call)
+    (x : MutBor (List Float)) (kind : Wave) (amplitude frequency : Float) (edition : ℕ) (cs : List Call)
     → number_of (new_by kind amplitude frequency edition x.now).answer.outcome ≡ 0
     → edition_held (all_called (beside x (new_by kind amplitude frequency edition x.now)) cs) ≡ edition
 
 abbrev pub NamedPortHeld : Type 0
 NamedPortHeld =
-    (x : Bor (List Float)) (voltage current : Float) (frequency : Reading) (edition : ℕ) (cs : List Call)
+    (x : MutBor (List Float)) (voltage current : Float) (frequency : Reading) (edition : ℕ) (cs : List Call)
     → number_of (new_port_by voltage current frequency edition x.now).answer.outcome ≡ 0
     → edition_held (all_called (beside x (new_port_by voltage current frequency edition x.now)) cs) ≡ edition
