@@ -9,7 +9,7 @@ use std::{fs, io};
 // The most bytes of a file.
 pub const LARGEST: usize = 262144;
 
-#[derive(Drop)]
+#[derive(Clone, Copy)]
 pub struct Tally {
     pub cases: u64,
     pub differ: u64,

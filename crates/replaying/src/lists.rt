@@ -14,7 +14,7 @@ pub const MOST: usize = 65537;
 const LEVEL: usize = 65536;
 
 // The first words of the two slices, of the slice that may be written to and of what was answered; and the lengths.
-#[derive(Drop)]
+#[derive(Clone, Copy)]
 pub struct Places {
     pub a: usize,
     pub na: usize,

@@ -3,7 +3,7 @@ use crate::lists::ROOM;
 use crate::{lists, read};
 use answers::{Measured, Outcome};
 
-#[derive(Drop)]
+#[derive(Clone, Copy)]
 pub struct Said {
     pub code: u32,
     pub wide: f64,
