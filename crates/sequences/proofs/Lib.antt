@@ -1,12 +1,3 @@
--- The walks. Assumes nothing.
+-- What a sequence tells of how its calls ended, and of how many samples there are. Assumes nothing.
 pub mod Lengths
 pub mod Endings
-pub mod Lending
-pub mod Callees
-pub mod Setting
-pub mod Resetting
-pub mod Reading
-pub mod SetTwice
-pub mod Begun
-pub mod ThenReset
-pub mod ThenRead
