@@ -28,6 +28,7 @@ pub fn fundamental_bin(frequency: f32, n: usize) -> usize
     saturated(number::round32(frequency * rate / rate)) as usize
 }
 
+#[tactic(auto, unfolding(crate::specs::Thd::usable))]
 pub fn usable(frequency: f32, half: usize, bin: usize) -> bool
     ensures { result ≡ Thd.usable frequency half bin }
 {

@@ -31,6 +31,7 @@ pub struct FundamentalAnswer {
 }
 
 // The refusals in their order, of so many volts and amps and a bin: 3, 1, 4, 8.
+#[tactic(auto, unfolding(crate::specs::Fundamental::fundamental_outcome))]
 fn judged(volts: usize, amps: usize, bin: usize) -> Outcome
     ensures { result ≡ fundamental_outcome volts amps bin }
 {

@@ -3,6 +3,7 @@ ghost use Rattle.std.specs.Prelude.{◌≡◌};
 ghost use Rattle.quality.specs.Quality.{spur_at, spur_of};
 
 // The largest so far with the place i: the fundamental is no spur.
+#[tactic(auto, unfolding(crate::specs::Quality::spur_at))]
 fn spur(bin: usize, best: f32, i: usize, x: f32) -> f32
     ensures { result ≡ spur_at bin best i x x }
 {

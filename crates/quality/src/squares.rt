@@ -67,6 +67,7 @@ fn with_block(spectrum: &[f32], from: usize, start: f64) -> f64
 
 // Of bin 1, whose multiples are all places from the first on: their power, a block a turn, up to the last whole block or the first that holds a NaN.
 // Of another bin, nothing yet.
+#[tactic(auto, using(crate::proofs::Orders::summed_none))]
 pub fn power_of_blocks(spectrum: &[f32], bin: usize, first: usize) -> Tally
     requires { Inside (length spectrum.now) bin first }
     ensures { Summed spectrum.now bin first result.sum result.order }

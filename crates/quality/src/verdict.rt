@@ -13,6 +13,7 @@ pub enum Verdict {
 }
 
 // Whether this bin of n places is 0 or past the end.
+#[tactic(auto, unfolding(crate::specs::Quality::unusable_bin))]
 fn is_unusable(n: usize, bin: usize) -> bool
     ensures { result ≡ unusable_bin n bin }
 {
@@ -23,6 +24,7 @@ fn is_unusable(n: usize, bin: usize) -> bool
 }
 
 // Of n places and this bin: too many places are refused whatever the bin.
+#[tactic(auto, unfolding(crate::specs::Judged::judged))]
 pub fn judge(n: usize, bin: usize) -> Verdict
     ensures { result ≡ judged n bin }
 {

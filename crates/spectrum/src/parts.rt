@@ -18,6 +18,7 @@ pub fn on_grid(n: usize) -> bool
 }
 
 // The refusals in their order, of n samples and of what was lent.
+#[tactic(auto, unfolding(crate::specs::Spectrum::outcome_of))]
 pub fn judged(n: usize, short: bool) -> Outcome
     ensures { result ≡ outcome_of n short }
 {
@@ -98,6 +99,7 @@ pub fn bin_magnitude(table: &[u32; 1025], samples: &[f32], k: usize) -> f32
 }
 
 // Bin 0 has no mirror image among the bins, so the factor 2 is not its own.
+#[tactic(auto, unfolding(crate::specs::Spectrum::halved))]
 pub fn first_halved(k: usize, magnitude: f32) -> f32
     ensures { result ≡ halved k magnitude }
 {

@@ -1,13 +1,7 @@
 use Rattle.std.proofs.Common.{◌-◌, sym, ◌∙◌, arith}
 use Rattle.quality.specs.Powers.{squares_at_once}
-use Rattle.quality.proofs.Orders.{order_le, summed_none, summed_places}
+use Rattle.quality.proofs.Orders.{order_le, summed_places}
 use Rattle.quality.proofs.squares.power_of_blocks.Goals as goal
-
-pub returns-then-bin-ne1 : goal.returns-then-bin-ne1
-returns-then-bin-ne1 c = summed_none _ _ _ c.requires
-
-pub loop-h-init : goal.loop-h-init
-loop-h-init c = summed_none _ _ _ c.requires
 
 pub overflow_add-h : goal.overflow_add-h
 overflow_add-h c =
