@@ -3,6 +3,7 @@ ghost use Rattle.std.specs.Prelude.{◌≡◌, cond, ◌+◌, ◌≤◌, ◌<◌
 ghost use Rattle.laws.specs.Samples.{higher, lower, all_numbers, numbers_in};
 
 // x where it is strictly above m, and m elsewhere: a NaN never replaces m.
+#[tactic(auto, unfolding(laws::specs::Samples::higher))]
 pub fn raised(m: f32, x: f32) -> f32
     ensures { result ≡ higher m x }
 {
@@ -10,6 +11,7 @@ pub fn raised(m: f32, x: f32) -> f32
 }
 
 // x where it is strictly below m, and m elsewhere.
+#[tactic(auto, unfolding(laws::specs::Samples::lower))]
 pub fn lowered(m: f32, x: f32) -> f32
     ensures { result ≡ lower m x }
 {
