@@ -4,3 +4,4 @@ pub mod ScaleSteps
 pub mod ScaleRunSteps
 pub mod AddDcOffsetSteps
 pub mod OffsetRunSteps
+pub mod Adding

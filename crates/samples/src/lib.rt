@@ -125,6 +125,7 @@ fn add_run(a: &[f32], b: &[f32], output: &mut [f32], from: usize, count: usize)
 }
 
 // Puts a[j] + b[j] at place j of the output, up to the shortest of the three lengths. The output is not read, and may have any length.
+#[tactic(auto, using(crate::proofs::Adding::first_long, crate::proofs::Adding::second_long))]
 pub fn add_signals(a: &[f32], b: &[f32], output: &mut [f32]) -> Outcome
     ensures { left result output.new ≡ added_into a.now b.now output.old }
 {
