@@ -7,7 +7,7 @@ use writing::WriteAnswer;
 
 // The number of a reading's outcome, the line and the pairs.
 #[repr(C)]
-#[derive(Drop)]
+#[derive(Clone, Copy)]
 pub struct CodedRead {
     pub code: u8,
     pub line: usize,
@@ -16,7 +16,7 @@ pub struct CodedRead {
 
 // The number of a writing's outcome, and the bytes.
 #[repr(C)]
-#[derive(Drop)]
+#[derive(Clone, Copy)]
 pub struct CodedWritten {
     pub code: u8,
     pub bytes: usize,

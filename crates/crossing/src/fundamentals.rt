@@ -6,7 +6,7 @@ use fundamental::FundamentalAnswer;
 
 // The number of the call's outcome, and the two figures.
 #[repr(C)]
-#[derive(Drop)]
+#[derive(Clone, Copy)]
 pub struct CodedFundamental {
     pub code: u8,
     pub active: f32,

@@ -5,7 +5,7 @@ ghost use Rattle.crossing.specs.Measured.{figure_of};
 use answers::Measured;
 
 #[repr(C)]
-#[derive(Drop)]
+#[derive(Clone, Copy)]
 pub struct Figure {
     pub code: u8,
     pub value: f32,

@@ -6,7 +6,7 @@ use crate::readings::{ABSENT, TjReading, slot_in, slot_out};
 use port::{Port, Reading, Slot};
 
 #[repr(C)]
-#[derive(Drop)]
+#[derive(Clone, Copy)]
 pub struct TjPort {
     pub voltage: f32,
     pub current: f32,

@@ -6,7 +6,7 @@ use power::{Power, PowerAnswer};
 
 // The number of the call's outcome, and the record.
 #[repr(C)]
-#[derive(Drop)]
+#[derive(Clone, Copy)]
 pub struct CodedPower {
     pub code: u8,
     pub power: Power,

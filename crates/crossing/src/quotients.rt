@@ -6,7 +6,7 @@ use quality::{Quotient, QuotientAnswer, Sfdr, SfdrAnswer};
 
 // The number of the call's outcome, and the case of the quotient as its kind and ratio.
 #[repr(C)]
-#[derive(Drop)]
+#[derive(Clone, Copy)]
 pub struct CodedQuotient {
     pub code: u8,
     pub kind: u8,

@@ -5,7 +5,7 @@ ghost use Rattle.crossing.specs.PortCrossing.{reading_in, reading_out, slot_in, 
 use port::{Reading, Slot};
 
 #[repr(C)]
-#[derive(Drop)]
+#[derive(Clone, Copy)]
 pub struct TjReading {
     pub present: bool,
     pub value: f32,

@@ -9,7 +9,7 @@ use generator::Shape;
 use signal::{Answer, Metrics, State};
 
 #[repr(C)]
-#[derive(Drop)]
+#[derive(Clone, Copy)]
 pub struct TjSignal {
     pub wave: u8,
     pub edition: u8,
@@ -24,7 +24,7 @@ pub struct TjSignal {
 
 // The number of the call's outcome, and the state.
 #[repr(C)]
-#[derive(Drop)]
+#[derive(Clone, Copy)]
 pub struct CodedSignal {
     pub code: u8,
     pub signal: TjSignal,

@@ -6,7 +6,7 @@ use figures::{TimeAnswer, TimeFigures};
 
 // The number of the call's outcome, and the record.
 #[repr(C)]
-#[derive(Drop)]
+#[derive(Clone, Copy)]
 pub struct CodedFigures {
     pub code: u8,
     pub figures: TimeFigures,

@@ -13,7 +13,7 @@ pub mod parts;
 
 // Laid out as C does, to cross its boundary as it is.
 #[repr(C)]
-#[derive(Drop)]
+#[derive(Clone, Copy)]
 pub struct Power {
     pub p: f32,
     pub nonactive: f32,
@@ -30,7 +30,7 @@ pub const ZERO: Power = Power {
 };
 
 // How the call ended, and the record.
-#[derive(Drop)]
+#[derive(Clone, Copy)]
 pub struct PowerAnswer {
     pub outcome: Outcome,
     pub power: Power,

@@ -24,7 +24,7 @@ pub fn judged(volts: usize, amps: usize) -> Outcome
 }
 
 // The sums over `count` pairs: of the products, of the voltage's squares and of the current's.
-#[derive(Drop)]
+#[derive(Clone, Copy)]
 pub struct Sums {
     pub vi: f64,
     pub vv: f64,

@@ -17,7 +17,7 @@ use port::Reading;
 use signal::{Answer, Metrics};
 
 // How the signal was made, and what is measured.
-#[derive(Drop)]
+#[derive(Clone, Copy)]
 pub struct MetricsAnswer {
     pub outcome: Outcome,
     pub metrics: Metrics,
