@@ -4,7 +4,6 @@ use Rattle.port.specs.Fields.{put, places, at_voltage_harmonics, at_current_harm
 use Rattle.port.specs.Readings.{with_place}
 use Rattle.port.specs.declared.Reading.{Reading}
 use Rattle.port.specs.declared.Reading.TheVariants.{Number, Absent}
-use Rattle.port.specs.declared.Slot.{Slot}
 use Rattle.crossing.specs.declared.readings.TjReading.{TjReading}
 use Rattle.crossing.specs.declared.ports.TjPort.{TjPort}
 use Rattle.crossing.specs.PortCrossing.{reading_in, reading_out, slot_in, slot_out, port_in, port_out}

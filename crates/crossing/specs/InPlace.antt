@@ -1,5 +1,5 @@
 -- The 16 harmonic places of a port as the caller lends them, and what the calls in place make of them. Definitions only.
-use Rattle.std.specs.Prelude.{ℕ, cond, List, map, set, nat_lt, slice_set}
+use Rattle.std.specs.Prelude.{ℕ, cond, List, map, nat_lt, slice_set}
 use Rattle.port.specs.Readings.{place_of}
 use Rattle.crossing.specs.declared.readings.TjReading.{TjReading}
 use Rattle.crossing.specs.PortCrossing.{reading_in, reading_out, slot_in}

@@ -1,0 +1,5 @@
+-- `crossing::times::figures_of` meets its contract. Assumes nothing.
+use Rattle.crossing.proofs.times.figures_of.Goals as goal
+
+pub returns : goal.returns
+returns c = rw c.number_of.ensures
