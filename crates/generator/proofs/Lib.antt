@@ -1,2 +1,3 @@
 -- Laws of the generator's definitions. Assumes nothing.
 pub mod Kept
+pub mod Whole

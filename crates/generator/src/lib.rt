@@ -42,6 +42,7 @@ pub fn wave_number(wave: Wave) -> u8
 }
 
 // The wave with a number; any other number is DC.
+#[tactic(auto, unfolding(crate::specs::Wave::wave_of))]
 pub fn wave_of(n: u8) -> Wave
     ensures { result ≡ wave_of n }
 {
@@ -58,6 +59,7 @@ pub fn wave_of(n: u8) -> Wave
 }
 
 // Fills the samples with one second of the wave, whatever their number: the sample rate is their count. The duty cycle is taken as it is.
+#[tactic(auto, using(crate::proofs::Whole::long))]
 pub fn generate_samples(
     wave: Wave,
     amplitude: f32,
