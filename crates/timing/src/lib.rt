@@ -9,6 +9,7 @@ use answers::{LONGEST, Measured, Outcome, UNMEASURED};
 pub mod parts;
 
 // The frequency in hertz at this many samples a second; 0 under two crossings.
+#[tactic(auto, using(crate::proofs::Whole::frequency_long))]
 pub fn measure_frequency(samples: &[f32], sample_rate: f32) -> Measured
     ensures { result ≡ frequency_answer samples.now sample_rate }
 {
@@ -24,6 +25,7 @@ pub fn measure_frequency(samples: &[f32], sample_rate: f32) -> Measured
 }
 
 // The largest change between neighbours, a second; 0 for a rate of 0 or below.
+#[tactic(auto, using(crate::proofs::Whole::slew_long))]
 pub fn slew_rate(samples: &[f32], sample_rate: f32) -> Measured
     ensures { result ≡ slew_answer samples.now sample_rate }
 {

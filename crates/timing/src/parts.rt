@@ -97,6 +97,7 @@ fn frequency_from(s: Crossings, rate: f32) -> f32
 }
 
 // The frequency by the rising crossings of this mean.
+#[tactic(auto, using(crate::proofs::Whole::few_crossings))]
 pub fn frequency(samples: &[f32], mean: f32, rate: f32) -> f32
     requires { length samples.now ≤ longest }
     ensures { result ≡ frequency_about mean samples.now rate }
