@@ -6,3 +6,4 @@ pub mod Rectified
 pub mod Whole
 pub mod Counted
 pub mod Unusual
+pub mod Answer

@@ -122,6 +122,7 @@ fn done(figures: TimeFigures) -> TimeAnswer
 }
 
 // Steps 1 to 9 of the Rust's calculate_metrics. With no samples, and where the capture is refused, the earlier record comes back.
+#[tactic(auto, using(crate::proofs::Answer::too_many))]
 pub fn calculate_time_figures(
     wave: Wave,
     amplitude: f32,

@@ -1,16 +1,14 @@
 -- `figures::calculate_time_figures` meets its contract. Assumes nothing.
-use borrow.Author.Tests.{lt-ltb, le-ltb, eq-eqb, ne_eqb}
-use Rattle.figures.specs.Figures.{answer_of}
+use Rattle.std.proofs.Common.{arith}
+use Rattle.figures.proofs.Answer.{no_samples, some_samples}
 use Rattle.figures.proofs.calculate_time_figures.Goals as goal
 
-pub returns-then-n-gt-LONGEST : goal.returns-then-n-gt-LONGEST
-unfolding answer_of
-returns-then-n-gt-LONGEST c = simp (lt-ltb _ _ c.if-n-gt-LONGEST.true)
-
 pub returns-then-n-eq0 : goal.returns-then-n-eq0
-unfolding answer_of
-returns-then-n-eq0 c = simp (le-ltb _ _ c.if-n-gt-LONGEST.false, eq-eqb _ _ c.if-n-eq0.true) c.done.ensures
+returns-then-n-eq0 c =
+    let a = c.args in
+    rw (c.done.ensures, no_samples a.wave a.amplitude a.frequency a.earlier a.samples.now (omega arith))
 
 pub returns : goal.returns
-unfolding answer_of
-returns c = simp (le-ltb _ _ c.if-n-gt-LONGEST.false, ne_eqb _ _ c.if-n-eq0.false) (rw (c.done-2.ensures, c.measure-figures.ensures))
+returns c =
+    let a = c.args in
+    rw (c.done-2.ensures, c.measure-figures.ensures, some_samples a.wave a.amplitude a.frequency a.earlier a.samples.now (omega arith) c.if-n-eq0.false)
