@@ -1,3 +1,4 @@
 -- What the generator's contracts cite. Assumes nothing.
 pub mod Wave
 pub mod Sample
+pub mod Units

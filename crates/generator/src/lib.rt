@@ -2,6 +2,7 @@
 #![tactic(auto)]
 
 pub mod parts;
+mod remainder;
 
 ghost use Rattle.std.specs.Prelude.{◌≡◌};
 ghost use Rattle.answers.specs.Left.{left};

@@ -3,6 +3,7 @@ ghost use Rattle.std.specs.Prelude.{◌≡◌, ◌≤◌, ◌<◌};
 ghost use Rattle.answers.specs.Numbers.{longest};
 ghost use Rattle.generator.specs.Sample.{samples_per_period, pwm_at, t_mod, triangular_at, sawtooth_at, sample_at};
 
+use crate::remainder::remainder;
 use crate::{Shape, Wave};
 use number::parts::counted;
 
@@ -18,7 +19,7 @@ fn pwm_at(s: Shape, n: f32, i: f32) -> f32
     ensures { result ≡ pwm_at s n i }
 {
     let period = samples_per_period(s.frequency, n);
-    let sample_in_period = i % period;
+    let sample_in_period = remainder(i, period);
     if sample_in_period / period < s.duty_cycle {
         s.amplitude
     } else {
@@ -34,7 +35,7 @@ fn t_mod(s: Shape, n: f32, i: f32) -> f32
     let angular_freq = 2.0 * PI * s.frequency;
     let phase_rad = s.phase * PI / 180.0;
     let period = 1.0 / s.frequency;
-    (t + phase_rad / angular_freq) % period
+    remainder(t + phase_rad / angular_freq, period)
 }
 
 fn triangular_at(s: Shape, n: f32, i: f32) -> f32

@@ -1,0 +1,105 @@
+// The remainder of two floats, as exact as `%`, worked out from the bit fields: no call of a C library.
+//
+// The bits of a magnitude below infinity are k * 2^23 + m where it is m * 2^k of the smallest values: m has at most 24 digits, and all of them unless k is 0.
+ghost use Rattle.std.specs.Prelude.{◌≡◌, ◌+◌, ◌-◌, ◌*◌, ◌/◌, ◌%◌, ◌^◌, ◌<◌, ◌≤◌};
+ghost use Rattle.std.specs.Float.{binary32};
+ghost use Rattle.std.specs.Float.Ieee.{rem};
+ghost use Rattle.generator.specs.Units.{places, digits, units};
+
+// The bits of an infinity's magnitude.
+const INFINITE: u64 = 0x7f80_0000;
+
+const LEADING: u64 = 0x80_0000;
+
+fn places(bits: u64) -> u64
+    ensures { result ≡ places bits }
+{
+    let field = bits >> 23;
+    if field == 0 { 0 } else { field - 1 }
+}
+
+// Twice r, below n as r is.
+fn doubled(r: u64, n: u64) -> u64
+    requires below { r < n }
+    requires bound { n < 2 ^ 24 }
+    ensures { result ≡ (r + r) % n }
+{
+    let twice = r + r;
+    if twice < n { twice } else { twice - n }
+}
+
+// What n leaves of m * 2^k, a bit a turn.
+fn left_of(m: u64, k: u64, n: u64) -> u64
+    requires above { 0 < n }
+    requires bound { n < 2 ^ 24 }
+    ensures { result ≡ m * 2 ^ k % n }
+{
+    let mut r = m % n;
+    let mut left = k;
+    while 0 < left {
+        r = doubled(r, n);
+        left -= 1;
+    }
+    r
+}
+
+// The bits of r * 2^k.
+fn packed(r: u64, k: u64) -> u64
+    requires digits { r < 2 ^ 24 }
+    requires places { k ≤ 253 }
+    ensures value { units result ≡ r * 2 ^ k }
+    ensures finite { result < 2139095040 }
+{
+    if r == 0 {
+        return 0;
+    }
+    let mut m = r;
+    let mut left = k;
+    while (m < LEADING) & (0 < left) {
+        m = m + m;
+        left -= 1;
+    }
+    left * LEADING + m
+}
+
+// Of two magnitudes below infinity.
+fn of_magnitudes(a: u64, b: u64) -> u64
+    requires a_finite { a < 2139095040 }
+    requires b_finite { b < 2139095040 }
+    requires above { 0 < b }
+    ensures value { units result ≡ units a % units b }
+    ensures finite { result < 2139095040 }
+{
+    let p = places(a);
+    let q = places(b);
+    if p < q {
+        return a;
+    }
+    packed(left_of(a - p * LEADING, p - q, b - q * LEADING), q)
+}
+
+// x % y
+pub fn remainder(x: f32, y: f32) -> f32
+    ensures { result ≡ rem binary32 x y }
+{
+    if x != x {
+        return x;
+    }
+    if y != y {
+        return y;
+    }
+    let bits = f32::to_bits(x) as u64;
+    let a = bits & 0x7fff_ffff;
+    let b = (f32::to_bits(y) as u64) & 0x7fff_ffff;
+    // of an infinity, or by zero
+    if INFINITE <= a {
+        return 0.0 / 0.0;
+    }
+    if b == 0 {
+        return 0.0 / 0.0;
+    }
+    if INFINITE <= b {
+        return x;
+    }
+    f32::from_bits((((bits >> 31) << 31) | of_magnitudes(a, b)) as u32)
+}
