@@ -7,3 +7,4 @@ pub mod SameEditions
 pub mod Counted
 pub mod SequencePort
 pub mod Shown
+pub mod Unknown
