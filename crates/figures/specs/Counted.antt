@@ -15,13 +15,13 @@ IsMeasured xs = (0 < length xs) × (length xs ≤ longest)
 abbrev pub HasCounts : List Float → TimeFigures → Type 0
 HasCounts xs r = (r.not_numbers ≡ not_numbers_of xs) × (r.infinite ≡ infinite_of xs)
 
--- of a capture that is measured the counts are its own, whatever the earlier record was (`counts-measured`)
+-- of a capture that is measured the counts are its own, whatever the earlier record was (`counts_measured`)
 abbrev pub CountsMeasured : Type 0
 CountsMeasured =
     (wave : Wave) (amplitude frequency : Float) (earlier : TimeFigures) (xs : List Float) → IsMeasured xs
     → HasCounts xs (answer_of wave amplitude frequency earlier xs).figures
 
--- 02, h: "with no samples the earlier counts come back with the earlier record", and so they do in a refusal (`counts-kept`)
+-- 02, h: "with no samples the earlier counts come back with the earlier record", and so they do in a refusal (`counts_kept`)
 abbrev pub CountsKept : Type 0
 CountsKept =
     (wave : Wave) (amplitude frequency : Float) (earlier : TimeFigures) (xs : List Float) → (length xs ≡ 0) ⊎ (longest < length xs)
@@ -30,7 +30,7 @@ CountsKept =
 abbrev pub BothZeroIn : TimeFigures → Type 0
 BothZeroIn r = (r.not_numbers ≡ 0) × (r.infinite ≡ 0)
 
--- for whoever reads the record of such a capture: both are 0 exactly when every sample was finite (`from-finite`). It does not say that the figures are finite, which
+-- for whoever reads the record of such a capture: both are 0 exactly when every sample was finite (`from_finite`). It does not say that the figures are finite, which
 -- can be beyond f32, nor anything of the amplitude and the frequency that were handed in
 abbrev pub FromFinite : Type 0
 FromFinite =

@@ -1,7 +1,7 @@
 -- The 19 time figures of a capture (01, item 5: "steps 1 to 9 of `calculate_metrics`, 19 of the 24 fields of `SignalMetrics`"), one definition each, the two counts (02, h:
 -- "Add both counts to the record that all readers share"), and the answer. Definitions only.
 -- No sample rate is given. For frequency, period and slew rate the samples are one second, so that the rate is their count: the Rust's "Buffer represents 1 second of
--- data (sample_rate == num_samples)". For rise and fall time they are one period of the frequency handed in where that is above 0 (Edges.antt, `sampleTimeOf`).
+-- data (sample_rate == num_samples)". For rise and fall time they are one period of the frequency handed in where that is above 0 (Edges.antt, `sample_time_of`).
 use Rattle.std.specs.Prelude.{cond, List, eqb, length, Float}
 use Rattle.std.specs.Float.{binary32}
 use Rattle.std.specs.Float.Ieee.{sub, neg}

@@ -192,7 +192,7 @@ put p i x = port_with (set (cells p) i x)
 pub data SetTo : Type 0 where
   set_to : ℕ → Cell → SetTo
 
--- p with the rows laid into it from the first on, one setter after another: the fields that they name are theirs, all others stay (`puts-at`, `proofs/Fields.antt`,
+-- p with the rows laid into it from the first on, one setter after another: the fields that they name are theirs, all others stay (`puts_at`, `proofs/Fields.antt`,
 -- for rows that have the kind of their field)
 abbrev pub puts : Port → List SetTo → Port
 puts p [] = p

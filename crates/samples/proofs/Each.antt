@@ -1,4 +1,4 @@
--- Loops that put f of each sample in its place, run after run: `eachFrom f from k s` is the slice after k turns of a run, and `eachTo f s k` once the first k places are done. Assumes nothing.
+-- Loops that put f of each sample in its place, run after run: `each_from f from k s` is the slice after k turns of a run, and `each_to f s k` once the first k places are done. Assumes nothing.
 use mathlib.Core.Path.{◌≡◌, refl, ap, ◌∙◌}
 use mathlib.Core.List.{List}
 use Prim.Native.Nat.{ℕ, ◌+◌, ◌<◌, ◌≤◌}

@@ -1,4 +1,4 @@
--- A loop that writes f p at place p, so many places from a place on: `filledFrom f from k out` is the slice after k turns. Runs one after another fill the slice from the front. Assumes nothing.
+-- A loop that writes f p at place p, so many places from a place on: `filled_from f from k out` is the slice after k turns. Runs one after another fill the slice from the front. Assumes nothing.
 use mathlib.Core.Path.{◌≡◌, refl, ap, fun_ext, ◌∙◌}
 use mathlib.Core.List.{List, [], ◌∷◌}
 use Prim.Native.Nat.{ℕ, zero, suc, ◌+◌, ◌<◌, ◌≤◌}

@@ -17,7 +17,7 @@ record_after l = (metrics_of l.answer.state).figures
 abbrev pub CountsOwn : SignalLeft → Type 0
 CountsOwn l = HasCounts l.places (record_after l)
 
--- so it is with a signal that was made, of no samples too (`counts-new`, `counts-port`)
+-- so it is with a signal that was made, of no samples too (`counts_new`, `counts_port`)
 abbrev pub CountsNew : Type 0
 CountsNew =
     (top : ℕ) (wave : Wave) (amplitude frequency : Float) (edition : ℕ) (xs : List Float) → Taken xs → CountsOwn (new_of top wave amplitude frequency edition xs)
@@ -26,14 +26,14 @@ abbrev pub CountsPort : Type 0
 CountsPort =
     (top : ℕ) (voltage current : Float) (frequency : Reading) (edition : ℕ) (xs : List Float) → Taken xs → CountsOwn (new_port_of top voltage current frequency edition xs)
 
--- and after each later call on at least one sample, whatever state and samples were handed to it (`counts-next`)
+-- and after each later call on at least one sample, whatever state and samples were handed to it (`counts_next`)
 abbrev pub CountsNext : Type 0
 CountsNext = (top : ℕ) (l : SignalLeft) (c : Later) → Taken l.places → 0 < length l.places → CountsOwn (next top l c)
 
--- 02, h: "with no samples the earlier counts come back with the earlier record": after a setting (`counts-stay`)
+-- 02, h: "with no samples the earlier counts come back with the earlier record": after a setting (`counts_stay`)
 abbrev pub CountsStay : Type 0
 CountsStay = (top : ℕ) (l : SignalLeft) (c : Setting) → length l.places ≡ 0 → record_after (next top l (setting c)) ≡ record_after l
 
--- so they are the samples' own through any later calls on the samples of the call before (`counts-follow`)
+-- so they are the samples' own through any later calls on the samples of the call before (`counts_follow`)
 abbrev pub CountsFollow : Type 0
 CountsFollow = (top : ℕ) (l : SignalLeft) (cs : List Later) → Taken l.places → CountsOwn l → CountsOwn (run top l cs)

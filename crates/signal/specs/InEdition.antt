@@ -39,7 +39,7 @@ EndsSet = (l : SignalLeft) (c : Setting) → (next_by l (setting c)).answer.outc
 abbrev pub EndsReset : Type 0
 EndsReset = (l : SignalLeft) → (next_by l reset).answer.outcome ≡ outcome_of (length l.places) false
 
--- 9 exactly where the edition is neither 1 nor 2 (`nine-then`, `nine-only`)
+-- 9 exactly where the edition is neither 1 nor 2 (`nine_then`, `nine_only`)
 abbrev pub NineThen : Type 0
 NineThen = (edition n : ℕ) → (Known edition → ⊥) → number_of (outcome_by edition n) ≡ 9
 
@@ -131,13 +131,13 @@ SameNew =
     (wave : Wave) (amplitude frequency : Float) (xs : List Float) → Taken xs → NoneAbove 16 frequency (length xs)
     → new_by wave amplitude frequency 2 xs ≡ numbered_as 2 (new_by wave amplitude frequency 1 xs)
 
--- a port, which has no usable fundamental bin (`same-port`)
+-- a port, which has no usable fundamental bin (`same_port`)
 abbrev pub SamePort : Type 0
 SamePort =
     (voltage current : Float) (frequency : Reading) (xs : List Float) → Taken xs
     → new_port_by voltage current frequency 2 xs ≡ numbered_as 2 (new_port_by voltage current frequency 1 xs)
 
--- and either through any later calls (`same-run`)
+-- and either through any later calls (`same_run`)
 abbrev pub SameRun : Type 0
 SameRun =
     (l : SignalLeft) (cs : List Later) → NoneAbove 16 l.answer.state.shape.frequency (length l.places)

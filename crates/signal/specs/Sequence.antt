@@ -56,22 +56,22 @@ Taken xs = (too_long (length xs) ≡ false) × (on_grid (length xs) ≡ true)
 abbrev pub Refused : List Float → Type 0
 Refused xs = (too_long (length xs) ≡ true) ⊎ (on_grid (length xs) ≡ false)
 
--- the three readings that follow a measurement show these figures of this wave, and this THD (`readings-after`)
+-- the three readings that follow a measurement show these figures of this wave, and this THD (`readings_after`)
 pub record Shows (shape : Shape) (figures : TimeFigures) (thd : Float) (p : Port) : Type 0 where
   pub level : p.voltage ≡ voltage_of shape.wave figures
   pub crest : p.voltage_crest_factor.reading ≡ Number figures.crest_factor
   pub distortion : p.voltage_thd.reading ≡ Number thd
 
--- those that the state itself has (`readings-new`, `readings-follow`)
+-- those that the state itself has (`readings_new`, `readings_follow`)
 abbrev pub ShowsOwn : State → Type 0
 ShowsOwn s = Shows s.shape (metrics_of s).figures (metrics_of s).thd s.port
 
--- the other 23 fields of the port are as they were (`others-stay`)
+-- the other 23 fields of the port are as they were (`others_stay`)
 abbrev pub OthersStay : Port → Port → Type 0
 OthersStay before after =
     (i : ℕ) → (i ≡ at_voltage → ⊥) → (i ≡ at_voltage_thd → ⊥) → (i ≡ at_voltage_crest_factor → ⊥) → cell_at (cells after) i ≡ cell_at (cells before) i
 
--- what a reset leaves in the state: this shape, and zero in all that is measured and in the readings that follow it (`reset-state`)
+-- what a reset leaves in the state: this shape, and zero in all that is measured and in the readings that follow it (`reset_state`)
 pub record Quiet (shape : Shape) (s : State) : Type 0 where
   pub kept : s.shape ≡ shape
   pub figures : (metrics_of s).figures ≡ zero_figures
@@ -80,7 +80,7 @@ pub record Quiet (shape : Shape) (s : State) : Type 0 where
   pub crest : s.port.voltage_crest_factor.reading ≡ Number zero32
   pub distortion : s.port.voltage_thd.reading ≡ Number zero32
 
--- 01, "Nothing but 0 writes to what was lent", and "a signal state .. handed in comes back unchanged" (`refused-run`)
+-- 01, "Nothing but 0 writes to what was lent", and "a signal state .. handed in comes back unchanged" (`refused_run`)
 pub record Unmoved (before after : SignalLeft) : Type 0 where
   pub state : after.answer.state ≡ before.answer.state
   pub samples : after.places ≡ before.places

@@ -50,7 +50,7 @@ of_kind Sawtooth a b = b
 abbrev pub frequency_reading : Wave → Float → Reading
 frequency_reading wave frequency = of_kind wave Absent (Number frequency)
 
--- phase 0, duty cycle a half, nothing measured; a port with its defaults and that frequency. The Rust puts the amplitude into the voltage here: `withMeasured`
+-- phase 0, duty cycle a half, nothing measured; a port with its defaults and that frequency. The Rust puts the amplitude into the voltage here: `with_measured`
 -- replaces it before anyone reads it. 02, e: "the caller names the edition where the signal is made"
 unfoldable pub fresh : Wave → Float → Float → ℕ → State
 fresh wave amplitude frequency edition = record {
