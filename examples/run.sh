@@ -17,6 +17,6 @@ fi
 cd ..
 mkdir -p target
 (cd crates/tilljingle && rt lib)
-"$compiler" -std=c99 -Wall -Wextra -Werror -Iinclude examples/probe.c crates/tilljingle/out/libtilljingle.a -lm -o target/probe
+"$compiler" -std=c99 -Wall -Wextra -Werror -Iinclude examples/probe.c crates/tilljingle/out/libtilljingle.a -o target/probe
 ${TILLJINGLE_RUNNER:-} target/probe
 (cd rust && cargo test --offline --target x86_64-unknown-linux-gnu)

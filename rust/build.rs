@@ -7,7 +7,6 @@ fn main() {
     let folder = var("TILLJINGLE_LIB").unwrap_or(root + "/crates/tilljingle/out");
     println!("cargo:rustc-link-search=native={folder}");
     println!("cargo:rustc-link-lib=static=tilljingle");
-    println!("cargo:rustc-link-lib=m"); // fmodf
     println!("cargo:rerun-if-env-changed=TILLJINGLE_LIB");
     println!("cargo:rerun-if-changed={folder}/libtilljingle.a");
 }
