@@ -151,6 +151,37 @@ def tried(folder, edits):
     return [judged(folder, path) for path in edits]
 
 
+def below():
+    """What each crate stands on, near and far."""
+    near = {}
+    for line in pathlib.Path("crates.txt").read_text(encoding="utf-8").splitlines():
+        if ":" in line and not line.startswith("#"):
+            name, names = line.split(":", 1)
+            near[name.split()[0]] = set(names.split())
+    found = {}
+    for crate in near:
+        waiting, found[crate] = set(near[crate]), set()
+        while waiting:
+            found[crate] |= waiting
+            waiting = set().union(*(near.get(name, set()) for name in waiting)) - found[crate]
+    return found
+
+
+def apart(under, crates, work):
+    """What the work answers for each crate: as many side by side as there are processors, but none beside one that it stands on, whose texts change meanwhile."""
+    waiting, found, running = list(crates), {}, {}
+    with concurrent.futures.ThreadPoolExecutor(os.cpu_count()) as pool:
+        while waiting or running:
+            for crate in list(waiting):
+                free = all(crate not in under.get(other, ()) and other not in under.get(crate, ()) for other in running.values())
+                if free and len(running) < os.cpu_count():
+                    waiting.remove(crate)
+                    running[pool.submit(work, crate)] = crate
+            for done in concurrent.futures.wait(running, return_when=concurrent.futures.FIRST_COMPLETED).done:
+                found[running.pop(done)] = done.result()
+    return found
+
+
 def main():
     edits = {}
     for path in sorted(pathlib.Path("crates").glob("*/must-fail/*.edit")):
@@ -163,9 +194,7 @@ def main():
             for part in ("src", "specs", "proofs"):
                 if (crate / part).is_dir():
                     shutil.copytree(crate / part, copy / crate / part)
-        with concurrent.futures.ThreadPoolExecutor(os.cpu_count()) as pool:
-            order = sorted(edits, key=lambda crate: -len(edits[crate]))
-            found = dict(zip(order, pool.map(lambda crate: tried(copy / "crates" / crate, edits[crate]), order)))
+        found = apart(below(), sorted(edits, key=lambda crate: -len(edits[crate])), lambda crate: tried(copy / "crates" / crate, edits[crate]))
     weak = 0
     for crate in sorted(found):
         for mark, path, why in found[crate]:
