@@ -16,7 +16,7 @@ fi
 
 cd ..
 mkdir -p target
-(cd crates/tilljingle && rt lib)
+(cd crates/tilljingle && rt lib --cpu=x86-64)
 "$compiler" -std=c99 -Wall -Wextra -Werror -Iinclude examples/probe.c crates/tilljingle/out/libtilljingle.a -o target/probe
 ${TILLJINGLE_RUNNER:-} target/probe
 (cd rust && cargo test --offline --target x86_64-unknown-linux-gnu)

@@ -36,6 +36,6 @@ published thd_from_spectrum |
 cmp -s gen/cut.new gen/cut.rs || cp gen/cut.new gen/cut.rs
 rm gen/cut.new
 
-if [ -n "${here:-}" ]; then ./here.sh; else (cd ../crates/tilljingle && rt lib); fi
+if [ -n "${here:-}" ]; then ./here.sh; else (cd ../crates/tilljingle && rt lib --cpu=x86-64); fi
 (cd ../crates/report && rt run </dev/null >/dev/null)
 cargo build --release --offline

@@ -1,4 +1,4 @@
-//! Links the static library that `rt lib` leaves in the folder out of crates/tilljingle, or the one of the folder TILLJINGLE_LIB.
+//! Links the static library that `rt lib --cpu=x86-64` leaves in the folder out of crates/tilljingle, or the one of the folder TILLJINGLE_LIB.
 
 use std::env::var;
 

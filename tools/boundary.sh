@@ -9,7 +9,7 @@ kit=$(cd "$(dirname "$(rt doc)")" && pwd)
 tools=$kit/toolchain
 out=target/boundary archive=crates/tilljingle/out/libtilljingle.a
 mkdir -p "$out"
-(cd crates/tilljingle && rt lib) >"$out/staticlib.log" 2>&1 || { cat "$out/staticlib.log" >&2; exit 1; }
+(cd crates/tilljingle && rt lib --cpu=x86-64) >"$out/staticlib.log" 2>&1 || { cat "$out/staticlib.log" >&2; exit 1; }
 
 # what the archive exports, the header declares and the checks call; the kit's compiler is its llvm-nm too, by the name that it is called by
 names() { grep -oh '\btj_[a-z0-9_]*(' "$@" | tr -d '(' | sort -u; }

@@ -1,7 +1,7 @@
 #!/usr/bin/env python3
 """The stack that each export of the x86-64 archive takes, in bytes, read off its code: frames, saved registers and return addresses along the deepest chain of
 calls, and the red zone below a frame where it is used. Records that are passed by value are the caller's, and what memcpy and memset take is not counted.
-usage: stack.py [ARCHIVE]   in the repository's root; the archive is the one that `rt lib` leaves in crates/tilljingle unless one is named"""
+usage: stack.py [ARCHIVE]   in the repository's root; the archive is the one that `rt lib --cpu=x86-64` leaves in crates/tilljingle unless one is named"""
 import functools
 import pathlib
 import re
