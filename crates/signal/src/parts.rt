@@ -229,6 +229,7 @@ pub fn clear(samples: &mut [f32])
 }
 
 // The state of silent samples.
+#[tactic(auto, unfolding(crate::specs::State::silenced))]
 pub fn silenced(state: State) -> State
     ensures { result ≡ S.silenced state }
 {
