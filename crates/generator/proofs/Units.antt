@@ -9,7 +9,7 @@ use native.Mathlib.Decide.{dec_lt}
 use mathlib.Core.Bool.{true, false, ◌&&◌}
 use lib.Dec.{T, ltb, ltb→lt, lt→ltb}
 use lib.Ieee.Fits.{and_i, and_l, and_r}
-use lib.Pow.{pow-add, pow_pos, pow_mono, shl_lt}
+use lib.Pow.{pow-add, pow_pos, pow_mono, shl_lt, shl_exact}
 use Rattle.std.proofs.lemmas.Nat.{mul-mod_first, mod-mul-add, div-add-mod'}
 use Rattle.generator.specs.Units.{places, digits, units}
 
@@ -21,8 +21,17 @@ bit_up x k = add-mul x x (2 ^ k) ∙ sym (ap (λ (p : ℕ). x * p) (two-pow-succ
 pub bit_down : (x k : ℕ) → 0 < k → (x + x) * 2 ^ (k - 1) ≡ x * 2 ^ k
 bit_down x k l = let e : suc (k - 1) ≡ k = omega (arith, l) in bit_up x (k - 1) ∙ ap (λ (j : ℕ). x * 2 ^ j) e
 
-pub turn : (r k n m : ℕ) → 0 < k → r * 2 ^ k % n ≡ m → (r + r) % n * 2 ^ (k - 1) % n ≡ m
-turn r k n m l e = mul-mod_first (r + r) (2 ^ (k - 1)) n ∙ ap (λ (x : ℕ). x % n) (bit_down r k l) ∙ e
+-- digits moved up within 64 places
+pub moved : (r k : ℕ) → r < 2 ^ 24 → k ≤ 40 → r * 2 ^ k % 2 ^ 64 ≡ r * 2 ^ k
+moved r k h l = shl_exact 24 k 64 h (omega (arith, l))
+
+pub turn : (r k n m : ℕ) → r < 2 ^ 24 → 40 ≤ k → r * 2 ^ k % n ≡ m → r * 2 ^ 40 % 2 ^ 64 % n * 2 ^ (k - 40) % n ≡ m
+turn r k n m h l e =
+    let s : 40 + (k - 40) ≡ k = omega (arith, l) in
+    ap (λ (x : ℕ). x % n * 2 ^ (k - 40) % n) (moved r 40 h (omega arith))
+    ∙ mul-mod_first (r * 2 ^ 40) (2 ^ (k - 40)) n
+    ∙ ap (λ (x : ℕ). x % n) (mul_assoc r (2 ^ 40) (2 ^ (k - 40)) ∙ ap (λ (x : ℕ). r * x) (sym (pow-add 2 40 (k - 40)) ∙ ap (λ (x : ℕ). 2 ^ x) s))
+    ∙ e
 
 -- ---- one turn of `packed`
 

@@ -18,29 +18,20 @@ fn places(bits: u64) -> u64
     if field == 0 { 0 } else { field - 1 }
 }
 
-// Twice r, below n as r is.
-fn doubled(r: u64, n: u64) -> u64
-    requires below { r < n }
-    requires bound { n < 2 ^ 24 }
-    ensures { result ≡ (r + r) % n }
-{
-    let twice = r + r;
-    if twice < n { twice } else { twice - n }
-}
-
-// What n leaves of m * 2^k, a bit a turn.
+// What n leaves of m * 2^k, 40 places a turn.
 fn left_of(m: u64, k: u64, n: u64) -> u64
+    requires digits { m < 2 ^ 24 }
     requires above { 0 < n }
     requires bound { n < 2 ^ 24 }
     ensures { result ≡ m * 2 ^ k % n }
 {
-    let mut r = m % n;
+    let mut r = m;
     let mut left = k;
-    while 0 < left {
-        r = doubled(r, n);
-        left -= 1;
+    while 40 < left {
+        r = (r << 40) % n;
+        left -= 40;
     }
-    r
+    (r << left) % n
 }
 
 // The bits of r * 2^k.

@@ -1,7 +1,5 @@
 -- `replay_slices::replay` meets its contract. The measure is what is left. Assumes nothing.
 use Prim.Native.Nat.{◌≤◌, ◌-◌}
-use native.Mathlib.Omega.{arith}
-use borrow.Author.Rules.{rules}
 use lib.ListN.{length}
 use Rattle.replay_slices.proofs.replay.Given as goal
 

@@ -1,7 +1,5 @@
 -- `replay_slices::of_spectrum::same_sines` meets its contract. The measure is what is left. Assumes nothing.
 use Prim.Native.Nat.{◌≤◌, ◌-◌}
-use native.Mathlib.Omega.{arith}
-use borrow.Author.Rules.{rules}
 use Rattle.replay_slices.proofs.of_spectrum.same_sines.Given as goal
 
 abbrev pub invariant-loop-k : goal.invariant-loop-k
