@@ -1,25 +1,18 @@
 -- A magnitude by its bits, what one leaves of another, and the remainder of two floats over it. Assumes nothing.
 use mathlib.Core.Path.{◌≡◌, refl, sym, ap, ap₂, ◌∙◌, subst}
 use mathlib.Core.Logic.{inl, inr}
-use Prim.Native.Nat.{ℕ, suc, ◌+◌, ◌-◌, ◌*◌, ◌/◌, ◌%◌, ◌^◌, ◌≤◌, ◌<◌}
-use native.Mathlib.Nat.{le_trans, lt_of_lt_of_le, mul_assoc, add-mul, mul-add, mul-pos, mod-lt, mod-eq_of_lt}
-use native.Mathlib.Nat.{mul-lt-mul_of_pos_right, mul-le-mul_right, two-pow-succ, eq-zero-or-pos}
+use Prim.Native.Nat.{ℕ, suc, ◌+◌, ◌-◌, ◌*◌, ◌/◌, ◌%◌, ◌^◌, ◌≤◌, ◌<◌, min}
+use native.Mathlib.Nat.{le_trans, le_of_eq, lt_of_le_of_lt, lt_of_lt_of_le, mul_assoc, add-mul, mul-pos, mod-lt, mod-eq_of_lt}
+use native.Mathlib.Nat.{mul-lt-mul_of_pos_right, mul-le-mul_right, eq-zero-or-pos}
 use native.Mathlib.Omega.{arith}
 use native.Mathlib.Decide.{dec_lt}
-use mathlib.Core.Bool.{true, false, ◌&&◌}
-use lib.Dec.{T, ltb, ltb→lt, lt→ltb}
-use lib.Ieee.Fits.{and_i, and_l, and_r}
+use lib.Count.{count_leading_zeros, leading_top}
 use lib.Pow.{pow-add, pow_pos, pow_mono, shl_lt, shl_exact}
 use Rattle.std.proofs.lemmas.Nat.{mul-mod_first, mod-mul-add, div-add-mod'}
+use Rattle.number.proofs.Pack.{pow_lt_back}
 use Rattle.generator.specs.Units.{places, digits, units}
 
 -- ---- one turn of `left_of`
-
-bit_up : (x k : ℕ) → (x + x) * 2 ^ k ≡ x * 2 ^ suc k
-bit_up x k = add-mul x x (2 ^ k) ∙ sym (ap (λ (p : ℕ). x * p) (two-pow-succ k) ∙ mul-add x (2 ^ k) (2 ^ k))
-
-pub bit_down : (x k : ℕ) → 0 < k → (x + x) * 2 ^ (k - 1) ≡ x * 2 ^ k
-bit_down x k l = let e : suc (k - 1) ≡ k = omega (arith, l) in bit_up x (k - 1) ∙ ap (λ (j : ℕ). x * 2 ^ j) e
 
 -- digits moved up within 64 places
 pub moved : (r k : ℕ) → r < 2 ^ 24 → k ≤ 40 → r * 2 ^ k % 2 ^ 64 ≡ r * 2 ^ k
@@ -32,19 +25,6 @@ turn r k n m h l e =
     ∙ mul-mod_first (r * 2 ^ 40) (2 ^ (k - 40)) n
     ∙ ap (λ (x : ℕ). x % n) (mul_assoc r (2 ^ 40) (2 ^ (k - 40)) ∙ ap (λ (x : ℕ). r * x) (sym (pow-add 2 40 (k - 40)) ∙ ap (λ (x : ℕ). 2 ^ x) s))
     ∙ e
-
--- ---- one turn of `packed`
-
-pub goes_on : (m k : ℕ) → (ltb m 8388608 && ltb 0 k) ≡ true → (m < 8388608) × (0 < k)
-goes_on m k e =
-    let t = subst T (sym e) tt in
-    (ltb→lt m 8388608 (and_l (ltb m 8388608) (ltb 0 k) t), ltb→lt 0 k (and_r (ltb m 8388608) (ltb 0 k) t))
-
-pub ends : (m k : ℕ) → (ltb m 8388608 && ltb 0 k) ≡ false → 0 < k → 2 ^ 23 ≤ m
-ends m k e l = elim (dec_lt m 8388608) [
-  | yes s ↦ absurd (subst T e (and_i (ltb m 8388608) (ltb 0 k) (lt→ltb m 8388608 s) (lt→ltb 0 k l)))
-  | no n ↦ omega (arith, n)
-]
 
 -- ---- a magnitude from its digits and places
 
@@ -126,3 +106,47 @@ pub brought : (a b p q r : ℕ) → p ≡ places a → q ≡ places b → q ≤ 
 brought a b p q r ep eq l y e =
     ap (λ (x : ℕ). r * 2 ^ x) eq
     ∙ brought_down a b r (omega (arith, ep, eq, l)) y (e ∙ ap₂ (λ (x z : ℕ). (a - x * 2 ^ 23) * 2 ^ (x - z) % (b - z * 2 ^ 23)) ep eq)
+
+-- ---- digits brought to their place
+
+-- r moved up by u places, as far as k and its leading digit allow
+pub record Placed (r k u : ℕ) : Type 0 where
+  pub within : u ≤ k
+  pub exact : r * 2 ^ u % 2 ^ 64 ≡ r * 2 ^ u
+  pub small : r * 2 ^ u < 2 ^ 24
+  pub full : 0 < k - u → 2 ^ 23 ≤ r * 2 ^ u
+
+pub zeros : (r : ℕ) → 0 < r → r < 2 ^ 24 → 40 ≤ count_leading_zeros 64 r
+zeros r p h =
+    let l = leading_top 64 r p (lt_of_lt_of_le h (pow_mono {i = 24} {j = 64} (omega arith))) in
+    let s : l.0 < 24 = pow_lt_back l.0 24 (lt_of_le_of_lt l.2 h) in
+    let e : count_leading_zeros 64 r + suc l.0 ≡ 64 = l.1 in
+    omega arith
+
+pub placed : (r k u : ℕ) → 0 < r → r < 2 ^ 24 → u ≡ min (count_leading_zeros 64 r - 40) k → Placed r k u
+placed r k u p h e =
+    let l = leading_top 64 r p (lt_of_lt_of_le h (pow_mono {i = 24} {j = 64} (omega arith))) in
+    let j = l.0 in
+    let L = count_leading_zeros 64 r in
+    let s : j < 24 = pow_lt_back j 24 (lt_of_le_of_lt l.2 h) in
+    let f : L + suc j ≡ 64 = l.1 in
+    let up : r * 2 ^ u < 2 ^ 24 = lt_of_lt_of_le (shl_lt (suc j) u l.3) (pow_mono {j = 24} (omega (arith, e, f, s))) in
+    record {
+      within = omega (arith, e);
+      exact = mod-eq_of_lt (lt_of_lt_of_le up (pow_mono {i = 24} {j = 64} (omega arith)));
+      small = up;
+      full = λ (w : 0 < k - u).
+          let z : j + u ≡ 23 = omega (arith, e, f, s, w) in
+          le_trans (le_of_eq (ap (λ (x : ℕ). 2 ^ x) (sym z) ∙ pow-add 2 j u)) (mul-le-mul_right (2 ^ u) l.2);
+    }
+
+pub placed_units : (r k u : ℕ) → Placed r k u → units ((k - u) * 2 ^ 23 + r * 2 ^ u % 2 ^ 64) ≡ r * 2 ^ k
+placed_units r k u w =
+    let s : u + (k - u) ≡ k = omega (arith, w.within) in
+    ap (λ (x : ℕ). units ((k - u) * 2 ^ 23 + x)) w.exact
+    ∙ of_packed (r * 2 ^ u) (k - u) w.small w.full
+    ∙ mul_assoc r (2 ^ u) (2 ^ (k - u))
+    ∙ ap (λ (x : ℕ). r * x) (sym (pow-add 2 u (k - u)) ∙ ap (λ (x : ℕ). 2 ^ x) s)
+
+pub placed_finite : (r k u : ℕ) → k ≤ 253 → Placed r k u → (k - u) * 2 ^ 23 + r * 2 ^ u % 2 ^ 64 < 2139095040
+placed_finite r k u h w = let a = w.exact in let b = w.small in omega (arith, a, b, h)

@@ -44,13 +44,9 @@ fn packed(r: u64, k: u64) -> u64
     if r == 0 {
         return 0;
     }
-    let mut m = r;
-    let mut left = k;
-    while (m < LEADING) & (0 < left) {
-        m = m + m;
-        left -= 1;
-    }
-    left * LEADING + m
+    let z = (u64::leading_zeros(r) as u64) - 40;
+    let up = z.min(k);
+    (k - up) * LEADING + (r << up)
 }
 
 // Of two magnitudes below infinity.
