@@ -7,11 +7,10 @@ if [ -n "${here:-}" ]; then
   export TILLJINGLE_LIB=$PWD/here CARGO_TARGET_DIR=$PWD/target/here
   CARGO_BUILD_TARGET=$(rustc -vV | sed -n "s/^host: //p")
   export CARGO_BUILD_TARGET
-  # the report program is for x86-64 all the same: the kit's emulator runs it
+  # the report program is for x86-64 all the same: an emulator runs it, over the kit's C library
   if [ "$(uname -m)" != x86_64 ]; then
-    kit=$(cd "$(dirname "$(rt doc)")/.." && pwd)
-    tools=$kit/on/$(uname -m)/toolchain
-    export TILLJINGLE_RUNNER="$tools/bin/qemu-x86_64 $tools/lib/ld-linux-x86-64.so.2 --library-path $tools/lib"
+    tools=$(cd "$(dirname "$(rt doc)")" && pwd)/toolchain
+    export TILLJINGLE_RUNNER="qemu-x86_64 $tools/lib/ld-linux-x86-64.so.2 --library-path $tools/lib"
   fi
 elif [ "$(uname -m)" != x86_64 ]; then
   native=

@@ -5,22 +5,22 @@
 set -euo pipefail
 cd "$(dirname "$0")"
 machine=$(uname -m)
-kit=$(cd "$(dirname "$(rt doc)")/.." && pwd)
-tools=$kit/on/$machine/toolchain
+kit=$(cd "$(dirname "$(rt doc)")" && pwd)
+tools=$kit/toolchain
 
-# a kit of links, in which only the compiler's name leads here
+# a kit of links, in which only the compiler's name leads here; rt and rattle find the kit by where they stand, so these are copied
 rm -rf here
-mkdir -p "here/kit/on/$machine/toolchain/bin"
-link_all() { local path; for path in "$1"/*; do [ "$(basename "$path")" = "$3" ] || ln -s "$path" "$2/"; done; }
-link_all "$kit" here/kit on
-link_all "$kit/on/$machine" "here/kit/on/$machine" toolchain
-link_all "$tools" "here/kit/on/$machine/toolchain" bin
-link_all "$tools/bin" "here/kit/on/$machine/toolchain/bin" clang
-cat > "here/kit/on/$machine/toolchain/bin/clang" <<END
+mkdir -p here/kit/toolchain/bin
+link_all() { local path; for path in "$1"/*; do case " $3 " in *" $(basename "$path") "*) ;; *) ln -s "$path" "$2/" ;; esac; done; }
+link_all "$kit" here/kit "bin toolchain"
+link_all "$tools" here/kit/toolchain bin
+link_all "$tools/bin" here/kit/toolchain/bin clang
+cp -r "$kit/bin" here/kit/bin
+cat > here/kit/toolchain/bin/clang <<END
 #!/usr/bin/env bash
 exec python3 "$PWD/retarget.py" "$tools/bin/clang" "$machine-unknown-linux-gnu" "\$@"
 END
-chmod +x "here/kit/on/$machine/toolchain/bin/clang"
+chmod +x here/kit/toolchain/bin/clang
 
-(cd .. && RATTLE_HOME="$OLDPWD/here/kit" "$OLDPWD/here/kit/bin/rt" staticlib tilljingle)
-mv ../target/staticlib/libtilljingle.a here/
+(cd ../crates/tilljingle && "$OLDPWD/here/kit/bin/rt" lib --cpu=x86-64)
+mv ../crates/tilljingle/out/libtilljingle.a here/

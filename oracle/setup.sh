@@ -9,6 +9,7 @@ install librust-libm-dev
 command -v cargo >/dev/null || install cargo rustc
 . ./env.sh
 [ -n "$native" ] || cross_tools
+[ "$(uname -m)" = x86_64 ] || install qemu-user
 
 ln -sfn "$(dirname "$(dpkg -L librust-libm-dev | grep '/Cargo.toml$' | head -n 1)")" libm
 mkdir -p gen
