@@ -34,7 +34,7 @@ state_out s = record {
 unfoldable pub coded_signal : Answer → CodedSignal
 coded_signal a = record { code = number_of a.outcome; signal = state_out a.state }
 
--- what is claimed of the edition (02, e): it crosses as the number that it is, out and in, whatever number (`edition-out`, `edition-in`)
+-- what is claimed of the edition (02, e): it crosses as the number that it is, out and in, whatever number (`edition_out`, `edition_in_lem`)
 abbrev pub EditionOut : Type 0
 EditionOut = (s : State) → (state_out s).edition ≡ edition_in s
 

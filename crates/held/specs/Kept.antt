@@ -28,7 +28,7 @@ all_called s [] = s
 all_called s (c ∷ cs) = all_called (called s c) cs
 
 -- these are what the contracts say of `set_phase`, `set_duty_cycle`, `reset_waveform`, of another port, and of a field of it that is set; where two or four are
--- set, that comes as often (`as-contracts`)
+-- set, that comes as often (`as_contracts`)
 pub record AsContracts (s : Signal) : Type 0 where
   pub phased : (p : Float) → called s (wave (setting (phase p))) ≡ after s (phase_by s.answer.state p s.samples.now)
   pub dutied : (d : Float) → called s (wave (setting (duty d))) ≡ after s (duty_by s.answer.state d s.samples.now)
@@ -40,11 +40,11 @@ pub record AsContracts (s : Signal) : Type 0 where
 abbrev pub edition_held : Signal → ℕ
 edition_held s = edition_in s.answer.state
 
--- "the signal keeps it through every reset": after any run of calls it is the one before them (`edition-held`)
+-- "the signal keeps it through every reset": after any run of calls it is the one before them (`edition_held_lem`)
 abbrev pub EditionHeld : Type 0
 EditionHeld = (s : Signal) (cs : List Call) → edition_held (all_called s cs) ≡ edition_held s
 
--- and so, of a signal that was made, the one that was named (`named-held`, `named-port-held`)
+-- and so, of a signal that was made, the one that was named (`named_held`, `named_port_held`)
 abbrev pub NamedHeld : Type 0
 NamedHeld =
     (x : MutBor (List Float)) (kind : Wave) (amplitude frequency : Float) (edition : ℕ) (cs : List Call)

@@ -1,4 +1,4 @@
-// A signal that keeps the caller's samples beside what it answered last. Each function takes the signal apart and calls the covered one by value.
+// A signal that keeps the caller's samples beside what it answered last. Each function takes the signal apart and calls the one of crate `signal` by value.
 #![tactic(auto)]
 
 mod parts;

@@ -47,7 +47,7 @@ power_told a = record { outcome = a.outcome; value = if_done a.outcome (port_pow
 
 -- ---- what is claimed of these; each is proved in proofs/Endings.antt
 
--- what is told of a wave, and of a port, is how it was made: 9, 3, 4 or done (`told-as-made`, `power-as-made`)
+-- what is told of a wave, and of a port, is how it was made: 9, 3, 4 or done (`told_as_made`, `power_as_made`)
 abbrev pub ToldAsMade : Type 0
 ToldAsMade =
     (wave : Wave) (amplitude frequency : Float) (edition : ℕ) (xs : List Float) (c : Later)
@@ -58,7 +58,7 @@ PowerAsMade =
     (voltage current : Float) (frequency : Reading) (edition : ℕ) (v : Float) (xs : List Float)
     → (power_told (with_voltage v (new_port_by voltage current frequency edition xs)).answer).outcome ≡ outcome_by edition (length xs)
 
--- and beside it what the last call says where it was made (`told-done`, `power-done`), and zero where it was refused (`told-refused`, `power-refused`)
+-- and beside it what the last call says where it was made (`told_done`, `power_done`), and zero where it was refused (`told_refused`, `power_refused`)
 abbrev pub ToldDone : Type 0
 ToldDone =
     (wave : Wave) (amplitude frequency : Float) (edition : ℕ) (xs : List Float) (c : Later) → number_of (outcome_by edition (length xs)) ≡ 0
@@ -80,7 +80,7 @@ PowerRefused =
     (voltage current : Float) (frequency : Reading) (edition : ℕ) (v : Float) (xs : List Float) → (number_of (outcome_by edition (length xs)) ≡ 0 → ⊥)
     → (power_told (with_voltage v (new_port_by voltage current frequency edition xs)).answer).value ≡ zero32
 
--- a setting of a signal that was made is not refused (`set-after-made`)
+-- a setting of a signal that was made is not refused (`set_after_made`)
 abbrev pub SetAfterMade : Type 0
 SetAfterMade =
     (wave : Wave) (amplitude frequency : Float) (edition : ℕ) (xs : List Float) (c : Setting) → number_of (new_by wave amplitude frequency edition xs).answer.outcome ≡ 0

@@ -1,5 +1,5 @@
 // Calls in a row on a signal that keeps its samples: it is made in a local, lent to one call after another, and what it answered or says at the end is handed
-// out. No contract speaks of the struct, so that covered code can call these.
+// out. No contract speaks of the struct.
 #![tactic(auto)]
 
 mod parts;
