@@ -1,6 +1,6 @@
 #!/usr/bin/env python3
 """Says why each must-fail edit is refused: its label and the first error of a check of its crate with the edit. `rt must-fail` and `rt ci` ask whether an edit is
-refused at all; here a copy of the repository is checked with each edit, crate by crate, as many side by side as there are processors.
+refused at all; here a copy of each crate, and of those below it, is checked with each of its edits, as many crates side by side as there are processors.
 An edit after which a goal of the proof has no name any more, or a place of the code is not where the proof looks for it, and nothing else is wrong, only made
 the proof unfit for the code and shows nothing: such a one is marked WEAK, and the program ends with status 1. An edit with lines '# refuses: F G ..' makes one
 wrong change in each of these functions, or one that each of these laws is about, and is WEAK unless each was refused for itself: by a goal of its own, and not
@@ -167,34 +167,26 @@ def below():
     return found
 
 
-def apart(under, crates, work):
-    """What the work answers for each crate: as many side by side as there are processors, but none beside one that it stands on, whose texts change meanwhile."""
-    waiting, found, running = list(crates), {}, {}
-    with concurrent.futures.ThreadPoolExecutor(os.cpu_count()) as pool:
-        while waiting or running:
-            for crate in list(waiting):
-                free = all(crate not in under.get(other, ()) and other not in under.get(crate, ()) for other in running.values())
-                if free and len(running) < os.cpu_count():
-                    waiting.remove(crate)
-                    running[pool.submit(work, crate)] = crate
-            for done in concurrent.futures.wait(running, return_when=concurrent.futures.FIRST_COMPLETED).done:
-                found[running.pop(done)] = done.result()
-    return found
+def tree_of(room, crate, under):
+    """The crate's folder in a copy of its own, of it and of those that it stands on: while it has an edit, no other crate is checked over it."""
+    names = {crate} | under[crate]
+    for name in names:
+        for part in ("src", "specs", "proofs"):
+            if pathlib.Path("crates", name, part).is_dir():
+                shutil.copytree(pathlib.Path("crates", name, part), room / crate / "crates" / name / part)
+    lines = pathlib.Path("crates.txt").read_text(encoding="utf-8").splitlines()
+    (room / crate / "crates.txt").write_text("".join(f"{line}\n" for line in lines if ":" in line and line.split(":")[0].split()[0] in names), encoding="utf-8")
+    return room / crate / "crates" / crate
 
 
 def main():
-    edits = {}
+    edits, under = {}, below()
     for path in sorted(pathlib.Path("crates").glob("*/must-fail/*.edit")):
         if not sys.argv[1:] or path.parts[1] in sys.argv[1:]:
             edits.setdefault(path.parts[1], []).append(path)
-    with tempfile.TemporaryDirectory(prefix="refusals-") as room:
-        copy = pathlib.Path(room)
-        shutil.copy("crates.txt", copy)
-        for crate in pathlib.Path("crates").iterdir():
-            for part in ("src", "specs", "proofs"):
-                if (crate / part).is_dir():
-                    shutil.copytree(crate / part, copy / crate / part)
-        found = apart(below(), sorted(edits, key=lambda crate: -len(edits[crate])), lambda crate: tried(copy / "crates" / crate, edits[crate]))
+    with tempfile.TemporaryDirectory(prefix="refusals-") as room, concurrent.futures.ThreadPoolExecutor(os.cpu_count()) as pool:
+        order = sorted(edits, key=lambda crate: (len(under[crate]), crate))
+        found = dict(zip(order, pool.map(lambda crate: tried(tree_of(pathlib.Path(room), crate, under), edits[crate]), order)))
     weak = 0
     for crate in sorted(found):
         for mark, path, why in found[crate]:
