@@ -18,5 +18,5 @@ pub extern "C" fn tj_calculate_time_figures(
     ensures { result ≡ coded_figures (answer_of (wave_of wave) amplitude frequency earlier samples.now) }
 {
     let kind = generator::wave_of(wave);
-    figures_of(figures::calculate_time_figures(kind, frequency, amplitude, earlier, samples))
+    figures_of(figures::calculate_time_figures(kind, amplitude, frequency, earlier, samples))
 }

@@ -13,5 +13,5 @@ pub extern "C" fn tj_fundamental_power(
 ) -> CodedFundamental
     ensures { result ≡ coded_fundamental (fundamental_answer voltage.now current.now bin) }
 {
-    fundamental_of(fundamental::fundamental_power(current, voltage, bin))
+    fundamental_of(fundamental::fundamental_power(voltage, current, bin))
 }

@@ -7,21 +7,21 @@ ghost use Rattle.number.specs.Number as Number;
 pub extern "C" fn tj_narrow(x: f64) -> f32
     ensures { result ≡ Number.narrow x }
 {
-    number::narrow(number::sqrt64(x))
+    number::narrow(x)
 }
 
 #[unsafe(no_mangle)]
 pub extern "C" fn tj_sqrt32(x: f32) -> f32
     ensures { result ≡ Number.root binary32 x }
 {
-    number::round32(x)
+    number::sqrt32(x)
 }
 
 #[unsafe(no_mangle)]
 pub extern "C" fn tj_sqrt64(x: f64) -> f64
     ensures { result ≡ Number.root binary64 x }
 {
-    x
+    number::sqrt64(x)
 }
 
 #[unsafe(no_mangle)]
@@ -35,12 +35,12 @@ pub extern "C" fn tj_sqrt64_narrowed(x: f64) -> f32
 pub extern "C" fn tj_abs32(x: f32) -> f32
     ensures { result ≡ Number.abs x }
 {
-    number::sqrt32(x)
+    number::abs32(x)
 }
 
 #[unsafe(no_mangle)]
 pub extern "C" fn tj_round32(x: f32) -> f32
     ensures { result ≡ Number.round_away binary32 x }
 {
-    number::abs32(x)
+    number::round32(x)
 }

@@ -1,6 +1,6 @@
 // The calls of port readings that do more than read or set a field. A port crosses as a flat record, a reading as a flag and a value.
 ghost use Rattle.std.specs.Prelude.{◌≡◌};
-ghost use Rattle.port.specs.Fields.{put, number, places, at_current, at_voltage_harmonics, at_current_harmonics};
+ghost use Rattle.port.specs.Fields.{put, places, at_voltage_harmonics, at_current_harmonics};
 ghost use Rattle.port.specs.Readings.{place_of, with_place, instantaneous_power, cleared};
 ghost use Rattle.crossing.specs.PortCrossing.{reading_in, reading_out, port_in, port_out};
 
@@ -9,14 +9,14 @@ use crossing::readings::{TjReading, reading_in, reading_out};
 
 #[unsafe(no_mangle)]
 pub extern "C" fn tj_instantaneous_power(port: TjPort) -> f32
-    ensures { result ≡ instantaneous_power (put (port_in port) at_current (number port.voltage)) }
+    ensures { result ≡ instantaneous_power (port_in port) }
 {
     port_in(port).instantaneous_power()
 }
 
 #[unsafe(no_mangle)]
 pub extern "C" fn tj_reset_power_params(port: TjPort) -> TjPort
-    ensures { result ≡ port_out (port_in port) }
+    ensures { result ≡ port_out cleared }
 {
     port_out(port_in(port).reset_power_params())
 }
@@ -33,14 +33,14 @@ pub extern "C" fn tj_set_voltage_harmonic(port: TjPort, n: u8, value: TjReading)
     ensures { result ≡ port_out (put (port_in port) at_voltage_harmonics (places (with_place (port_in port).voltage_harmonics n (reading_in value)))) }
 {
     let reading = reading_in(value);
-    port_out(port_in(port).set_voltage_harmonic(1, reading))
+    port_out(port_in(port).set_voltage_harmonic(n, reading))
 }
 
 #[unsafe(no_mangle)]
 pub extern "C" fn tj_current_harmonic(port: TjPort, n: u8) -> TjReading
     ensures { result ≡ reading_out (place_of (port_in port).current_harmonics n) }
 {
-    reading_out(port_in(port).current_harmonic(1))
+    reading_out(port_in(port).current_harmonic(n))
 }
 
 #[unsafe(no_mangle)]

@@ -9,7 +9,7 @@ use crossing::powers::{CodedPower, power_of};
 pub extern "C" fn tj_compute_power(voltage: &[f32], current: &[f32], sample_rate: f32) -> CodedPower
     ensures { result ≡ coded_power (answer_of voltage.now current.now) }
 {
-    power_of(power::compute_power(voltage, voltage, sample_rate))
+    power_of(power::compute_power(voltage, current, sample_rate))
 }
 
 #[unsafe(no_mangle)]

@@ -22,7 +22,7 @@ pub extern "C" fn tj_signal_new(
     ensures { left result samples.new ≡ answered_as coded_signal (new_by (wave_of wave) amplitude frequency edition samples.old) }
 {
     let kind = generator::wave_of(wave);
-    coded(signal::new(kind, frequency, amplitude, edition, samples))
+    coded(signal::new(kind, amplitude, frequency, edition, samples))
 }
 
 #[unsafe(no_mangle)]
@@ -36,7 +36,7 @@ pub extern "C" fn tj_signal_new_power_port(
     ensures { left result samples.new ≡ answered_as coded_signal (new_port_by voltage current (reading_in frequency) edition samples.old) }
 {
     let reading = readings::reading_in(frequency);
-    coded(signal::new_power_port(current, voltage, reading, edition, samples))
+    coded(signal::new_power_port(voltage, current, reading, edition, samples))
 }
 
 #[unsafe(no_mangle)]
@@ -48,7 +48,7 @@ pub extern "C" fn tj_signal_set_phase(
     ensures { left result samples.new ≡ answered_as coded_signal (phase_by (state_in signal) phase samples.old) }
 {
     let state = state_in(signal);
-    coded(signal::set_phase(state, 0.0, samples))
+    coded(signal::set_phase(state, phase, samples))
 }
 
 #[unsafe(no_mangle)]
@@ -60,12 +60,12 @@ pub extern "C" fn tj_signal_set_duty_cycle(
     ensures { left result samples.new ≡ answered_as coded_signal (duty_by (state_in signal) duty_cycle samples.old) }
 {
     let state = state_in(signal);
-    coded(signal::set_duty_cycle(state, 0.0, samples))
+    coded(signal::set_duty_cycle(state, duty_cycle, samples))
 }
 
 #[unsafe(no_mangle)]
 pub extern "C" fn tj_signal_reset_waveform(signal: TjSignal, samples: &mut [f32]) -> CodedSignal
-    ensures { left result samples.old ≡ answered_as coded_signal (reset_of (state_in signal) samples.old) }
+    ensures { left result samples.new ≡ answered_as coded_signal (reset_of (state_in signal) samples.old) }
 {
     let state = state_in(signal);
     coded(signal::reset_waveform(state, samples))

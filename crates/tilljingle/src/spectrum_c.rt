@@ -21,5 +21,5 @@ pub extern "C" fn tj_dft_magnitude_spectrum_in(
     ensures { left result (output.new, scratch.new)
         ≡ answered_as number_of (spectrum_in samples.now scratch.old output.old) }
 {
-    answers::number_of(spectrum::dft_magnitude_spectrum_in(samples, scratch, output)) / 2
+    answers::number_of(spectrum::dft_magnitude_spectrum_in(samples, scratch, output))
 }

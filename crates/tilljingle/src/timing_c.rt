@@ -9,12 +9,12 @@ use crossing::measured::{Figure, figure_of};
 pub extern "C" fn tj_measure_frequency(samples: &[f32], sample_rate: f32) -> Figure
     ensures { result ≡ figure_of (frequency_answer samples.now sample_rate) }
 {
-    figure_of(timing::measure_frequency(samples, 1.0))
+    figure_of(timing::measure_frequency(samples, sample_rate))
 }
 
 #[unsafe(no_mangle)]
 pub extern "C" fn tj_slew_rate(samples: &[f32], sample_rate: f32) -> Figure
     ensures { result ≡ figure_of (slew_answer samples.now sample_rate) }
 {
-    figure_of(timing::slew_rate(samples, 1.0))
+    figure_of(timing::slew_rate(samples, sample_rate))
 }
