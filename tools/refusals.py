@@ -4,13 +4,14 @@ refused at all; here a copy of each crate, and of those below it, is checked wit
 An edit after which a goal of the proof has no name any more, or a place of the code is not where the proof looks for it, and nothing else is wrong, only made
 the proof unfit for the code and shows nothing: such a one is marked WEAK, and the program ends with status 1. An edit with lines '# refuses: F G ..' makes one
 wrong change in each of these functions, or one that each of these laws is about, and is WEAK unless each was refused for itself: by a goal of its own, and not
-only because a function that it calls was, or because a name is gone. One that isn't is tried again with its own wrong program alone, and then with the names of
-its goals in its proof as they are after the change, place by place: a goal is named after the code that it stands at, and so a changed test renames it. An edit
+only because a function that it calls was, or because a name is gone. Those that weren't are tried again with the names of goals in their proofs as they are after
+the change, place by place (a goal is named after the code that it stands at, and so a changed test renames it), and then by their own wrong program alone. An edit
 that is still proved, or cannot be applied or read, is WEAK too.
 Whether the changed program is a wrong one is for whoever writes the edit to see: another right program may be refused just as well.
 usage: refusals.py [CRATE..]   in the repository's root; the edits of these crates alone, else all"""
 import concurrent.futures
 import difflib
+import functools
 import os
 import pathlib
 import re
@@ -65,32 +66,33 @@ def check(folder, texts, *flags):
     return said.returncode, said.stdout + said.stderr
 
 
-def names_of(folder, function, texts):
-    """Folder in proofs/, and the names of goals and facts in the order of the code, of a function of the crate with these texts; None if it has none."""
+def names_of(folder, texts):
+    """By function its folder in proofs/, and the names of its goals and facts in the order of the code, of the crate with these texts."""
+    found = {}
     with tempfile.TemporaryDirectory(prefix="refusals-") as room:
         check(folder, texts, "--generated", room)
-        for goals in pathlib.Path(room).glob(f"*-proofs/**/{function}/Goals.antt"):
+        for goals in pathlib.Path(room).glob("*-proofs/**/Goals.antt"):
             lts = goals.with_name("Lts.antt")
             read = goals.read_text(encoding="utf-8") + (lts.read_text(encoding="utf-8") if lts.exists() else "")
-            return pathlib.Path("proofs", *goals.relative_to(room).parts[1:-1]), re.findall(r"^ *(?:abbrev )?pub (\S+) :", read, re.M)
-    return None
+            found[goals.parent.name] = pathlib.Path("proofs", *goals.relative_to(room).parts[1:-1]), re.findall(r"^ *(?:abbrev )?pub (\S+) :", read, re.M)
+    return found
 
 
-def renamed(folder, function, texts):
-    """These texts, and the function's proof with the names of goals and facts as they are with them."""
-    before, after = names_of(folder, function, {}), names_of(folder, function, texts)
-    if not before or not after:
-        return None
-    now = {}
-    for _, a, b, c, d in difflib.SequenceMatcher(None, before[1], after[1], autojunk=False).get_opcodes():
-        if b - a == d - c:
-            for old, new in zip(before[1][a:b], after[1][c:d]):
-                now.setdefault(old, new)
-    more = {}
-    for path in (folder / before[0]).glob("*.antt"):
-        inner = str(path.relative_to(folder))
-        text = texts.get(inner, path.read_text(encoding="utf-8"))
-        more[inner] = re.sub(r"(?<![\w'-])[\w'-]+(?![\w'-])", lambda word: now.get(word[0], word[0]), text)
+def renamed(folder, functions, texts, before):
+    """These texts, and the proofs of these functions with the names of goals and facts as they are with them."""
+    after, more = names_of(folder, texts), {}
+    for function in functions:
+        if function not in before or function not in after:
+            continue
+        (place, was), (_, names), now = before[function], after[function], {}
+        for _, a, b, c, d in difflib.SequenceMatcher(None, was, names, autojunk=False).get_opcodes():
+            if b - a == d - c:
+                for old, new in zip(was[a:b], names[c:d]):
+                    now.setdefault(old, new)
+        for path in (folder / place).glob("*.antt"):
+            inner = str(path.relative_to(folder))
+            text = texts.get(inner, path.read_text(encoding="utf-8"))
+            more[inner] = re.sub(r"(?<![\w'-])[\w'-]+(?![\w'-])", lambda word: now.get(word[0], word[0]), text)
     return {**texts, **more}
 
 
@@ -118,7 +120,11 @@ def is_own(name, error):
     return bool(own) and not LOST.search(why)
 
 
-def judged(folder, path):
+def still(names, errors):
+    return [name for name in names if not any(is_own(name, error) for error in errors)]
+
+
+def judged(folder, path, before):
     """Mark, edit, and why it is refused."""
     programs = programs_of(path.read_text(encoding="utf-8"))
     texts = changed(folder, [change for _, changes in programs for change in changes])
@@ -129,26 +135,26 @@ def judged(folder, path):
     if status != 1 or not said.rstrip().split("logic=")[-1].startswith("not-proved"):
         return "WEAK", path, f": the check ends with status {status}: {' '.join(said.split())[-300:]}"
     real = [error for error in errors if not LOST.search(error[1])]
-    passed = []
-    for names, changes in programs:
-        left = [name for name in names if not any(is_own(name, error) for error in errors)]
-        alone = changed(folder, changes) if left else None
-        if alone and len(programs) > 1:
-            found = errors_of(check(folder, alone)[1])
-            left = [name for name in left if not any(is_own(name, error) for error in found)]
-        for name in left:
-            by_name = renamed(folder, name, alone) if alone else None
-            if not by_name or not any(is_own(name, error) for error in errors_of(check(folder, by_name)[1])):
-                passed.append(name)
+    left = still([name for names, _ in programs for name in names], errors)
+    if left:
+        left = still(left, errors_of(check(folder, renamed(folder, left, texts, before()))[1]))
+    for names, changes in programs if len(programs) > 1 else ():
+        mine = [name for name in names if name in left]
+        alone = changed(folder, changes) if mine else None
+        if alone:
+            mine = still(mine, errors_of(check(folder, alone)[1]))
+            mine = mine and still(mine, errors_of(check(folder, renamed(folder, mine, alone, before()))[1]))
+            left = [name for name in left if name not in names or name in mine]
     where, why = (errors or [("", "no error was found")])[0]
-    return "ok" if real and not passed else "WEAK", path, f": {where}: {why[:160]}" + (f" NOT REFUSED: {' '.join(passed)}" if passed else "")
+    return "ok" if real and not left else "WEAK", path, f": {where}: {why[:160]}" + (f" NOT REFUSED: {' '.join(left)}" if left else "")
 
 
 def tried(folder, edits):
     status, said = check(folder, {})
     if status:
         return [("WEAK", path, f": the crate is not proved without it: {' '.join(said.split())[-300:]}") for path in edits]
-    return [judged(folder, path) for path in edits]
+    before = functools.lru_cache(lambda: names_of(folder, {}))
+    return [judged(folder, path, before) for path in edits]
 
 
 def below():
