@@ -7,4 +7,3 @@ pub mod SameEditions
 pub mod Counted
 pub mod SequencePort
 pub mod Shown
-pub mod Unknown

@@ -202,7 +202,7 @@ fn remake(top: usize, earlier: State, next: State, samples: &mut [f32]) -> Answe
 }
 
 // The same in this edition; where there is none of that number, the state before.
-#[tactic(auto, using(crate::proofs::Unknown::no_edition))]
+#[tactic(auto, using(distortion::proofs::ByEdition::edition_unknown), unfolding(crate::specs::Editions::remade_by))]
 pub fn remake_by(edition: u8, before: State, next: State, samples: &mut [f32]) -> Answer
     ensures { left result samples.new ≡ remade_by edition before next samples.old }
 {
