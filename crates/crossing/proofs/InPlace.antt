@@ -1,9 +1,7 @@
 -- The calls in place follow the rule of the calls that pass a port: what is set in place is, as readings, what the port's own setting sets. Assumes nothing.
-use Rattle.std.proofs.Common.{◌≡◌, ℕ, zero, suc, ◌<◌, Bool, true, false, cond, ltb, List, [], ◌∷◌, map, length, get_or, set, sym, refl, ap, arith}
+use Rattle.std.proofs.Common.{◌≡◌, ℕ, zero, suc, ◌<◌, Bool, true, false, cond, ltb, List, [], ◌∷◌, map, length, get_or, set, sym, refl, ap, arith, Option, Some, None}
 use Rattle.port.specs.Fields.{put, places, at_voltage_harmonics, at_current_harmonics}
 use Rattle.port.specs.Readings.{with_place}
-use Rattle.port.specs.declared.Reading.{Reading}
-use Rattle.port.specs.declared.Reading.TheVariants.{Number, Absent}
 use Rattle.crossing.specs.declared.readings.TjReading.{TjReading}
 use Rattle.crossing.specs.declared.ports.TjPort.{TjPort}
 use Rattle.crossing.specs.PortCrossing.{reading_in, reading_out, slot_in, slot_out, port_in, port_out}
@@ -20,15 +18,15 @@ map_set g [] n x = refl
 map_set g (y ∷ l) zero x = refl
 map_set {B = B} g (y ∷ l) (suc n) x = ap (λ (t : List B). g y ∷ t) (map_set g l n x)
 
-slot_back : (r : Reading) → slot_in (reading_out r) ≡ record { reading = r }
-slot_back (Number x) = refl
-slot_back Absent = refl
+slot_back : (r : Option Float) → slot_in (reading_out r) ≡ r
+slot_back (Some x) = refl
+slot_back None = refl
 
 -- the port's rule, on the readings that the lent places stand for
 pub same_rule : (h : List TjReading) (n : ℕ) (v : TjReading) → map slot_in (with_harmonic h n v) ≡ with_place (map slot_in h) n (reading_in v)
 same_rule h n v = picked (ltb n 16)
   where
-    picked : (t : Bool) → map slot_in (cond t (set h n (reading_out (reading_in v))) h) ≡ cond t (set (map slot_in h) n (record { reading = reading_in v })) (map slot_in h)
+    picked : (t : Bool) → map slot_in (cond t (set h n (reading_out (reading_in v))) h) ≡ cond t (set (map slot_in h) n (reading_in v)) (map slot_in h)
     picked true = rw (map_set slot_in h n (reading_out (reading_in v)), slot_back (reading_in v))
     picked false = refl
 

@@ -1,9 +1,6 @@
 -- A port that crosses the boundary and comes back is the port it was; and what the two functions that take it across need. Assumes nothing.
-use Rattle.std.proofs.Common.{◌≡◌, ℕ, List, [], ◌∷◌, map, length, get_or, refl, ap, arith}
+use Rattle.std.proofs.Common.{◌≡◌, ℕ, List, [], ◌∷◌, map, length, get_or, refl, ap, arith, Option, Some, None}
 use Rattle.laws.specs.Filled.{filled}
-use Rattle.port.specs.declared.Reading.{Reading}
-use Rattle.port.specs.declared.Reading.TheVariants.{Number, Absent}
-use Rattle.port.specs.declared.Slot.{Slot}
 use Rattle.port.specs.declared.Port.{Port}
 use Rattle.crossing.specs.declared.readings.TjReading.{TjReading}
 use Rattle.crossing.specs.declared.ports.TjPort.{TjPort}
@@ -17,21 +14,21 @@ filled_maps g d [] (o ∷ out) e = absurd (omega arith)
 filled_maps g d (x ∷ s) [] e = absurd (omega arith)
 filled_maps {B = B} g d (x ∷ s) (o ∷ out) e = ap (λ (l : List B). g x ∷ l) (filled_maps g d s out (omega arith))
 
-reading_back : (r : Reading) → reading_in (reading_out r) ≡ r
-reading_back (Number x) = refl
-reading_back Absent = refl
+reading_back : (r : Option Float) → reading_in (reading_out r) ≡ r
+reading_back (Some x) = refl
+reading_back None = refl
 
-slot_back : (s : Slot) → slot_in (slot_out s) ≡ s
+slot_back : (s : Option Float) → slot_in (slot_out s) ≡ s
 slot_back s = rw (reading_back s.reading)
 
-places_back : (l : List Slot) → map slot_in (map slot_out l) ≡ l
+places_back : (l : List (Option Float)) → map slot_in (map slot_out l) ≡ l
 places_back [] = refl
 places_back (s ∷ l) = rw (slot_back s, places_back l)
 
 -- the record that `port_in` puts together
-pub port_in_whole : (p : TjPort) (frequency : Slot) (phase-angle : Slot) (reactive-power : Slot) (apparent-power : Slot) (power-factor : Slot) (displacement-pf : Slot) (voltage-thd : Slot)
-    (current-thd : Slot) (voltage-crest-factor : Slot) (current-crest-factor : Slot) (voltage-harmonics : List Slot) (current-harmonics : List Slot) (efficiency : Slot) (losses : Slot)
-    (temperature : Slot)
+pub port_in_whole : (p : TjPort) (frequency : Option Float) (phase-angle : Option Float) (reactive-power : Option Float) (apparent-power : Option Float) (power-factor : Option Float) (displacement-pf : Option Float) (voltage-thd : Option Float)
+    (current-thd : Option Float) (voltage-crest-factor : Option Float) (current-crest-factor : Option Float) (voltage-harmonics : List (Option Float)) (current-harmonics : List (Option Float)) (efficiency : Option Float) (losses : Option Float)
+    (temperature : Option Float)
     → frequency ≡ slot_in p.frequency
     → phase-angle ≡ slot_in p.phase_angle
     → reactive-power ≡ slot_in p.reactive_power

@@ -1,26 +1,23 @@
 -- How a port crosses the boundary: as a flat record, in which a reading is a flag and a value. Definitions only.
-use Rattle.std.specs.Prelude.{true, false, cond, map}
+use Rattle.std.specs.Prelude.{true, false, cond, map, Option, Some, None}
 use Rattle.laws.specs.Literals.{zero32}
-use Rattle.port.specs.declared.Reading.{Reading}
-use Rattle.port.specs.declared.Reading.TheVariants.{Number, Absent}
-use Rattle.port.specs.declared.Slot.{Slot}
 use Rattle.port.specs.declared.Port.{Port}
 use Rattle.crossing.specs.declared.readings.TjReading.{TjReading}
 use Rattle.crossing.specs.declared.ports.TjPort.{TjPort}
 
 -- the reading that a flag and a value stand for
-abbrev pub reading_in : TjReading → Reading
-reading_in r = cond r.present (Number r.value) Absent
+abbrev pub reading_in : TjReading → Option Float
+reading_in r = cond r.present (Some r.value) None
 
 -- our decision for the boundary, of which 01 says nothing: an absent reading goes out with the value 0
-abbrev pub reading_out : Reading → TjReading
-reading_out (Number x) = record { present = true; value = x }
-reading_out Absent = record { present = false; value = zero32 }
+abbrev pub reading_out : Option Float → TjReading
+reading_out (Some x) = record { present = true; value = x }
+reading_out None = record { present = false; value = zero32 }
 
-abbrev pub slot_in : TjReading → Slot
-slot_in r = record { reading = reading_in r }
+abbrev pub slot_in : TjReading → Option Float
+slot_in r = reading_in r
 
-abbrev pub slot_out : Slot → TjReading
+abbrev pub slot_out : Option Float → TjReading
 slot_out s = reading_out s.reading
 
 -- field by field

@@ -3,7 +3,7 @@ ghost use Rattle.std.specs.Prelude.{◌≡◌, map};
 ghost use Rattle.crossing.specs.PortCrossing.{slot_in, slot_out, port_in, port_out};
 
 use crate::readings::{ABSENT, TjReading, slot_in, slot_out};
-use port::{Port, Reading, Slot};
+use port::Port;
 
 #[repr(C)]
 #[derive(Clone, Copy)]
@@ -36,11 +36,11 @@ pub struct TjPort {
     pub temperature: TjReading,
 }
 
-fn places_in(harmonics: [TjReading; 16]) -> [Slot; 16]
+fn places_in(harmonics: [TjReading; 16]) -> [Option<f32>; 16]
     ensures { result ≡ map slot_in harmonics }
 {
     let none = Slot {
-        reading: Reading::Absent,
+        reading: None,
     };
     let mut out = [none; 16];
     let mut i = 0;
@@ -52,7 +52,7 @@ fn places_in(harmonics: [TjReading; 16]) -> [Slot; 16]
     out
 }
 
-fn places_out(harmonics: [Slot; 16]) -> [TjReading; 16]
+fn places_out(harmonics: [Option<f32>; 16]) -> [TjReading; 16]
     ensures { result ≡ map slot_out harmonics }
 {
     let none = ABSENT;

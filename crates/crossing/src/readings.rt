@@ -2,7 +2,6 @@
 ghost use Rattle.std.specs.Prelude.{◌≡◌};
 ghost use Rattle.crossing.specs.PortCrossing.{reading_in, reading_out, slot_in, slot_out};
 
-use port::{Reading, Slot};
 
 #[repr(C)]
 #[derive(Clone, Copy)]
@@ -17,36 +16,36 @@ pub const ABSENT: TjReading = TjReading {
     value: 0.0,
 };
 
-pub fn reading_in(r: TjReading) -> Reading
+pub fn reading_in(r: TjReading) -> Option<f32>
     ensures { result ≡ reading_in r }
 {
     if r.present {
-        Reading::Number(r.value)
+        Some(r.value)
     } else {
-        Reading::Absent
+        None
     }
 }
 
-pub fn reading_out(r: Reading) -> TjReading
+pub fn reading_out(r: Option<f32>) -> TjReading
     ensures { result ≡ reading_out r }
 {
     match r {
-        Reading::Number(value) => TjReading {
+        Some(value) => TjReading {
             present: true,
             value: value,
         },
-        Reading::Absent => ABSENT,
+        None => ABSENT,
     }
 }
 
-pub fn slot_in(r: TjReading) -> Slot
+pub fn slot_in(r: TjReading) -> Option<f32>
     ensures { result ≡ slot_in r }
 {
     let reading = reading_in(r);
     Slot { reading: reading }
 }
 
-pub fn slot_out(s: Slot) -> TjReading
+pub fn slot_out(s: Option<f32>) -> TjReading
     ensures { result ≡ slot_out s }
 {
     let reading = s.reading;

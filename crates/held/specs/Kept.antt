@@ -1,11 +1,10 @@
 -- What a held signal keeps through every call on it (02, e). Definitions only; the claims are proved in proofs/Kept.antt.
-use Rattle.std.specs.Prelude.{ℕ, ◌≡◌, List, [], ◌∷◌, Float}
+use Rattle.std.specs.Prelude.{ℕ, ◌≡◌, List, [], ◌∷◌, Float, Option}
 use denote.Ref.{MutBor}
 use Rattle.answers.specs.Left.{left}
 use Rattle.answers.specs.Numbers.{number_of}
 use Rattle.generator.specs.declared.Wave.{Wave}
 use Rattle.port.specs.declared.Port.{Port}
-use Rattle.port.specs.declared.Reading.{Reading}
 use Rattle.port.specs.Fields.{Cell, put}
 use Rattle.signal.specs.Calls.{reset_of}
 use Rattle.signal.specs.Sequence.{Later, setting, reset, phase, duty}
@@ -53,6 +52,6 @@ NamedHeld =
 
 abbrev pub NamedPortHeld : Type 0
 NamedPortHeld =
-    (x : MutBor (List Float)) (voltage current : Float) (frequency : Reading) (edition : ℕ) (cs : List Call)
+    (x : MutBor (List Float)) (voltage current : Float) (frequency : Option Float) (edition : ℕ) (cs : List Call)
     → number_of (new_port_by voltage current frequency edition x.now).answer.outcome ≡ 0
     → edition_held (all_called (beside x (new_port_by voltage current frequency edition x.now)) cs) ≡ edition

@@ -14,7 +14,7 @@ ghost use Rattle.port.specs.Readings.{place_of, with_place, instantaneous_power,
 ghost use Rattle.held.specs.Held.{beside, after, with_port, with_field};
 
 use generator::Wave;
-use port::{Port, Reading};
+use port::Port;
 use signal::{Answer, Metrics};
 
 // The caller's samples; how the last call on them ended, and the state. A setting of the port is no such call: it can't be refused, and leaves the outcome.
@@ -46,7 +46,7 @@ impl<'a> Signal<'a> {
     pub fn new_power_port(
         voltage: f32,
         current: f32,
-        frequency: Reading,
+        frequency: Option<f32>,
         edition: u8,
         samples: &'a mut [f32],
     ) -> Signal<'a>
@@ -150,14 +150,14 @@ impl<'a> Signal<'a> {
         self.answer.state.port = next;
     }
 
-    pub fn frequency(&mut self) -> Reading
-        ensures { left result self.new ≡ left self.old.answer.state.port.frequency.reading self.old }
+    pub fn frequency(&mut self) -> Option<f32>
+        ensures { left result self.new ≡ left self.old.answer.state.port.frequency self.old }
     {
         let port = self.answer.state.port;
         port.frequency()
     }
 
-    pub fn set_frequency(&mut self, frequency: Reading)
+    pub fn set_frequency(&mut self, frequency: Option<f32>)
         ensures { self.new ≡ with_field self.old Fields.at_frequency (reading frequency) }
     {
         let port = self.answer.state.port;
@@ -165,14 +165,14 @@ impl<'a> Signal<'a> {
         self.answer.state.port = next;
     }
 
-    pub fn phase_angle(&mut self) -> Reading
-        ensures { left result self.new ≡ left self.old.answer.state.port.phase_angle.reading self.old }
+    pub fn phase_angle(&mut self) -> Option<f32>
+        ensures { left result self.new ≡ left self.old.answer.state.port.phase_angle self.old }
     {
         let port = self.answer.state.port;
         port.phase_angle()
     }
 
-    pub fn set_phase_angle(&mut self, phase_angle: Reading)
+    pub fn set_phase_angle(&mut self, phase_angle: Option<f32>)
         ensures { self.new ≡ with_field self.old Fields.at_phase_angle (reading phase_angle) }
     {
         let port = self.answer.state.port;
@@ -195,14 +195,14 @@ impl<'a> Signal<'a> {
         self.answer.state.port = next;
     }
 
-    pub fn reactive_power(&mut self) -> Reading
-        ensures { left result self.new ≡ left self.old.answer.state.port.reactive_power.reading self.old }
+    pub fn reactive_power(&mut self) -> Option<f32>
+        ensures { left result self.new ≡ left self.old.answer.state.port.reactive_power self.old }
     {
         let port = self.answer.state.port;
         port.reactive_power()
     }
 
-    pub fn set_reactive_power(&mut self, reactive_power: Reading)
+    pub fn set_reactive_power(&mut self, reactive_power: Option<f32>)
         ensures { self.new ≡ with_field self.old Fields.at_reactive_power (reading reactive_power) }
     {
         let port = self.answer.state.port;
@@ -210,14 +210,14 @@ impl<'a> Signal<'a> {
         self.answer.state.port = next;
     }
 
-    pub fn apparent_power(&mut self) -> Reading
-        ensures { left result self.new ≡ left self.old.answer.state.port.apparent_power.reading self.old }
+    pub fn apparent_power(&mut self) -> Option<f32>
+        ensures { left result self.new ≡ left self.old.answer.state.port.apparent_power self.old }
     {
         let port = self.answer.state.port;
         port.apparent_power()
     }
 
-    pub fn set_apparent_power(&mut self, apparent_power: Reading)
+    pub fn set_apparent_power(&mut self, apparent_power: Option<f32>)
         ensures { self.new ≡ with_field self.old Fields.at_apparent_power (reading apparent_power) }
     {
         let port = self.answer.state.port;
@@ -225,14 +225,14 @@ impl<'a> Signal<'a> {
         self.answer.state.port = next;
     }
 
-    pub fn power_factor(&mut self) -> Reading
-        ensures { left result self.new ≡ left self.old.answer.state.port.power_factor.reading self.old }
+    pub fn power_factor(&mut self) -> Option<f32>
+        ensures { left result self.new ≡ left self.old.answer.state.port.power_factor self.old }
     {
         let port = self.answer.state.port;
         port.power_factor()
     }
 
-    pub fn set_power_factor(&mut self, power_factor: Reading)
+    pub fn set_power_factor(&mut self, power_factor: Option<f32>)
         ensures { self.new ≡ with_field self.old Fields.at_power_factor (reading power_factor) }
     {
         let port = self.answer.state.port;
@@ -240,14 +240,14 @@ impl<'a> Signal<'a> {
         self.answer.state.port = next;
     }
 
-    pub fn displacement_pf(&mut self) -> Reading
-        ensures { left result self.new ≡ left self.old.answer.state.port.displacement_pf.reading self.old }
+    pub fn displacement_pf(&mut self) -> Option<f32>
+        ensures { left result self.new ≡ left self.old.answer.state.port.displacement_pf self.old }
     {
         let port = self.answer.state.port;
         port.displacement_pf()
     }
 
-    pub fn set_displacement_pf(&mut self, displacement_pf: Reading)
+    pub fn set_displacement_pf(&mut self, displacement_pf: Option<f32>)
         ensures { self.new ≡ with_field self.old Fields.at_displacement_pf (reading displacement_pf) }
     {
         let port = self.answer.state.port;
@@ -285,14 +285,14 @@ impl<'a> Signal<'a> {
         self.answer.state.port = next;
     }
 
-    pub fn voltage_thd(&mut self) -> Reading
-        ensures { left result self.new ≡ left self.old.answer.state.port.voltage_thd.reading self.old }
+    pub fn voltage_thd(&mut self) -> Option<f32>
+        ensures { left result self.new ≡ left self.old.answer.state.port.voltage_thd self.old }
     {
         let port = self.answer.state.port;
         port.voltage_thd()
     }
 
-    pub fn set_voltage_thd(&mut self, voltage_thd: Reading)
+    pub fn set_voltage_thd(&mut self, voltage_thd: Option<f32>)
         ensures { self.new ≡ with_field self.old Fields.at_voltage_thd (reading voltage_thd) }
     {
         let port = self.answer.state.port;
@@ -300,14 +300,14 @@ impl<'a> Signal<'a> {
         self.answer.state.port = next;
     }
 
-    pub fn current_thd(&mut self) -> Reading
-        ensures { left result self.new ≡ left self.old.answer.state.port.current_thd.reading self.old }
+    pub fn current_thd(&mut self) -> Option<f32>
+        ensures { left result self.new ≡ left self.old.answer.state.port.current_thd self.old }
     {
         let port = self.answer.state.port;
         port.current_thd()
     }
 
-    pub fn set_current_thd(&mut self, current_thd: Reading)
+    pub fn set_current_thd(&mut self, current_thd: Option<f32>)
         ensures { self.new ≡ with_field self.old Fields.at_current_thd (reading current_thd) }
     {
         let port = self.answer.state.port;
@@ -315,14 +315,14 @@ impl<'a> Signal<'a> {
         self.answer.state.port = next;
     }
 
-    pub fn voltage_crest_factor(&mut self) -> Reading
-        ensures { left result self.new ≡ left self.old.answer.state.port.voltage_crest_factor.reading self.old }
+    pub fn voltage_crest_factor(&mut self) -> Option<f32>
+        ensures { left result self.new ≡ left self.old.answer.state.port.voltage_crest_factor self.old }
     {
         let port = self.answer.state.port;
         port.voltage_crest_factor()
     }
 
-    pub fn set_voltage_crest_factor(&mut self, voltage_crest_factor: Reading)
+    pub fn set_voltage_crest_factor(&mut self, voltage_crest_factor: Option<f32>)
         ensures { self.new ≡ with_field self.old Fields.at_voltage_crest_factor (reading voltage_crest_factor) }
     {
         let port = self.answer.state.port;
@@ -330,14 +330,14 @@ impl<'a> Signal<'a> {
         self.answer.state.port = next;
     }
 
-    pub fn current_crest_factor(&mut self) -> Reading
-        ensures { left result self.new ≡ left self.old.answer.state.port.current_crest_factor.reading self.old }
+    pub fn current_crest_factor(&mut self) -> Option<f32>
+        ensures { left result self.new ≡ left self.old.answer.state.port.current_crest_factor self.old }
     {
         let port = self.answer.state.port;
         port.current_crest_factor()
     }
 
-    pub fn set_current_crest_factor(&mut self, current_crest_factor: Reading)
+    pub fn set_current_crest_factor(&mut self, current_crest_factor: Option<f32>)
         ensures { self.new ≡ with_field self.old Fields.at_current_crest_factor (reading current_crest_factor) }
     {
         let port = self.answer.state.port;
@@ -346,14 +346,14 @@ impl<'a> Signal<'a> {
     }
 
     // Places 0 to 15; a higher one is absent, and setting it does nothing.
-    pub fn voltage_harmonic(&mut self, n: u8) -> Reading
+    pub fn voltage_harmonic(&mut self, n: u8) -> Option<f32>
         ensures { left result self.new ≡ left (place_of self.old.answer.state.port.voltage_harmonics n) self.old }
     {
         let port = self.answer.state.port;
         port.voltage_harmonic(n)
     }
 
-    pub fn set_voltage_harmonic(&mut self, n: u8, value: Reading)
+    pub fn set_voltage_harmonic(&mut self, n: u8, value: Option<f32>)
         ensures { self.new ≡ with_field self.old Fields.at_voltage_harmonics (places (with_place self.old.answer.state.port.voltage_harmonics n value)) }
     {
         let port = self.answer.state.port;
@@ -362,14 +362,14 @@ impl<'a> Signal<'a> {
     }
 
     // Places 0 to 15; a higher one is absent, and setting it does nothing.
-    pub fn current_harmonic(&mut self, n: u8) -> Reading
+    pub fn current_harmonic(&mut self, n: u8) -> Option<f32>
         ensures { left result self.new ≡ left (place_of self.old.answer.state.port.current_harmonics n) self.old }
     {
         let port = self.answer.state.port;
         port.current_harmonic(n)
     }
 
-    pub fn set_current_harmonic(&mut self, n: u8, value: Reading)
+    pub fn set_current_harmonic(&mut self, n: u8, value: Option<f32>)
         ensures { self.new ≡ with_field self.old Fields.at_current_harmonics (places (with_place self.old.answer.state.port.current_harmonics n value)) }
     {
         let port = self.answer.state.port;
@@ -377,14 +377,14 @@ impl<'a> Signal<'a> {
         self.answer.state.port = next;
     }
 
-    pub fn efficiency(&mut self) -> Reading
-        ensures { left result self.new ≡ left self.old.answer.state.port.efficiency.reading self.old }
+    pub fn efficiency(&mut self) -> Option<f32>
+        ensures { left result self.new ≡ left self.old.answer.state.port.efficiency self.old }
     {
         let port = self.answer.state.port;
         port.efficiency()
     }
 
-    pub fn set_efficiency(&mut self, efficiency: Reading)
+    pub fn set_efficiency(&mut self, efficiency: Option<f32>)
         ensures { self.new ≡ with_field self.old Fields.at_efficiency (reading efficiency) }
     {
         let port = self.answer.state.port;
@@ -392,14 +392,14 @@ impl<'a> Signal<'a> {
         self.answer.state.port = next;
     }
 
-    pub fn losses(&mut self) -> Reading
-        ensures { left result self.new ≡ left self.old.answer.state.port.losses.reading self.old }
+    pub fn losses(&mut self) -> Option<f32>
+        ensures { left result self.new ≡ left self.old.answer.state.port.losses self.old }
     {
         let port = self.answer.state.port;
         port.losses()
     }
 
-    pub fn set_losses(&mut self, losses: Reading)
+    pub fn set_losses(&mut self, losses: Option<f32>)
         ensures { self.new ≡ with_field self.old Fields.at_losses (reading losses) }
     {
         let port = self.answer.state.port;
@@ -475,14 +475,14 @@ impl<'a> Signal<'a> {
         self.answer.state.port = next;
     }
 
-    pub fn temperature(&mut self) -> Reading
-        ensures { left result self.new ≡ left self.old.answer.state.port.temperature.reading self.old }
+    pub fn temperature(&mut self) -> Option<f32>
+        ensures { left result self.new ≡ left self.old.answer.state.port.temperature self.old }
     {
         let port = self.answer.state.port;
         port.temperature()
     }
 
-    pub fn set_temperature(&mut self, temperature: Reading)
+    pub fn set_temperature(&mut self, temperature: Option<f32>)
         ensures { self.new ≡ with_field self.old Fields.at_temperature (reading temperature) }
     {
         let port = self.answer.state.port;

@@ -11,7 +11,7 @@ use lib.Dec.{eqb}
 use lib.ListN.{length, set, get_or}
 use lib.Seq.{get_or-set_same, get_or-set_other}
 use Rattle.port.specs.declared.Port.{Port}
-use Rattle.port.specs.Fields.{Cell, number, reading, places, flag, cells, cell_at, number_in, slot_in, places_in, flag_in, port_with, put, SetTo, set_to, puts}
+use Rattle.port.specs.Fields.{Cell, number, reading, places, flag, cells, cell_at, number_in, optional_in, places_in, flag_in, port_with, put, SetTo, set_to, puts}
 
 -- so `cells` tells any two ports apart
 pub whole : (p : Port) → port_with (cells p) ≡ p
@@ -30,7 +30,7 @@ is_number (reading x) e = absurd (omega arith)
 is_number (places x) e = absurd (omega arith)
 is_number (flag x) e = absurd (omega arith)
 
-is_reading : (x : Cell) → kind x ≡ 1 → reading (slot_in x).reading ≡ x
+is_reading : (x : Cell) → kind x ≡ 1 → reading (optional_in x) ≡ x
 is_reading (number x) e = absurd (omega arith)
 is_reading (reading x) e = refl
 is_reading (places x) e = absurd (omega arith)

@@ -1,17 +1,14 @@
 -- A port as the list of its fields (01, item 9, "Port readings: setters, getters, limits"): that a call sets one field and leaves all others is that it sets one
 -- place of the list. Definitions only.
-use Rattle.std.specs.Prelude.{Bool, false, List, [], ◌∷◌, ℕ, set, get_or, Float}
+use Rattle.std.specs.Prelude.{Bool, false, List, [], ◌∷◌, ℕ, set, get_or, Float, Option, None}
 use Rattle.std.specs.Float.{nan}
-use Rattle.port.specs.declared.Reading.{Reading}
-use Rattle.port.specs.declared.Reading.TheVariants.{Absent}
-use Rattle.port.specs.declared.Slot.{Slot}
 use Rattle.port.specs.declared.Port.{Port}
 
 -- what a field holds; "A reading is a number or absent"
 pub data Cell : Type 0 where
   number : Float → Cell
-  reading : Reading → Cell
-  places : List Slot → Cell
+  reading : Option Float → Cell
+  places : List (Option Float) → Cell
   flag : Bool → Cell
 
 -- ---- the fields' places in the list, in the Rust's order
@@ -99,30 +96,30 @@ abbrev pub cells : Port → List Cell
 cells p =
     number p.voltage ∷
     number p.current ∷
-    reading p.frequency.reading ∷
-    reading p.phase_angle.reading ∷
+    reading p.frequency ∷
+    reading p.phase_angle ∷
     number p.active_power ∷
-    reading p.reactive_power.reading ∷
-    reading p.apparent_power.reading ∷
-    reading p.power_factor.reading ∷
-    reading p.displacement_pf.reading ∷
+    reading p.reactive_power ∷
+    reading p.apparent_power ∷
+    reading p.power_factor ∷
+    reading p.displacement_pf ∷
     number p.energy_imported ∷
     number p.energy_exported ∷
-    reading p.voltage_thd.reading ∷
-    reading p.current_thd.reading ∷
-    reading p.voltage_crest_factor.reading ∷
-    reading p.current_crest_factor.reading ∷
+    reading p.voltage_thd ∷
+    reading p.current_thd ∷
+    reading p.voltage_crest_factor ∷
+    reading p.current_crest_factor ∷
     places p.voltage_harmonics ∷
     places p.current_harmonics ∷
-    reading p.efficiency.reading ∷
-    reading p.losses.reading ∷
+    reading p.efficiency ∷
+    reading p.losses ∷
     number p.voltage_min ∷
     number p.voltage_max ∷
     number p.current_max ∷
     number p.power_max ∷
     flag p.is_enabled ∷
     flag p.is_faulted ∷
-    reading p.temperature.reading ∷
+    reading p.temperature ∷
     []
 
 -- what a cell holds; a cell of another kind stands at no field's place, and what is said of it here is never used (`proofs/Fields.antt`)
@@ -132,13 +129,13 @@ number_in (reading x) = nan
 number_in (places x) = nan
 number_in (flag x) = nan
 
-abbrev pub slot_in : Cell → Slot
-slot_in (number x) = record { reading = Absent }
-slot_in (reading x) = record { reading = x }
-slot_in (places x) = record { reading = Absent }
-slot_in (flag x) = record { reading = Absent }
+abbrev pub optional_in : Cell → Option Float
+optional_in (number x) = None
+optional_in (reading x) = x
+optional_in (places x) = None
+optional_in (flag x) = None
 
-abbrev pub places_in : Cell → List Slot
+abbrev pub places_in : Cell → List (Option Float)
 places_in (number x) = []
 places_in (reading x) = []
 places_in (places x) = x
@@ -158,30 +155,30 @@ abbrev pub port_with : List Cell → Port
 port_with l = record {
   voltage = number_in (cell_at l at_voltage);
   current = number_in (cell_at l at_current);
-  frequency = slot_in (cell_at l at_frequency);
-  phase_angle = slot_in (cell_at l at_phase_angle);
+  frequency = optional_in (cell_at l at_frequency);
+  phase_angle = optional_in (cell_at l at_phase_angle);
   active_power = number_in (cell_at l at_active_power);
-  reactive_power = slot_in (cell_at l at_reactive_power);
-  apparent_power = slot_in (cell_at l at_apparent_power);
-  power_factor = slot_in (cell_at l at_power_factor);
-  displacement_pf = slot_in (cell_at l at_displacement_pf);
+  reactive_power = optional_in (cell_at l at_reactive_power);
+  apparent_power = optional_in (cell_at l at_apparent_power);
+  power_factor = optional_in (cell_at l at_power_factor);
+  displacement_pf = optional_in (cell_at l at_displacement_pf);
   energy_imported = number_in (cell_at l at_energy_imported);
   energy_exported = number_in (cell_at l at_energy_exported);
-  voltage_thd = slot_in (cell_at l at_voltage_thd);
-  current_thd = slot_in (cell_at l at_current_thd);
-  voltage_crest_factor = slot_in (cell_at l at_voltage_crest_factor);
-  current_crest_factor = slot_in (cell_at l at_current_crest_factor);
+  voltage_thd = optional_in (cell_at l at_voltage_thd);
+  current_thd = optional_in (cell_at l at_current_thd);
+  voltage_crest_factor = optional_in (cell_at l at_voltage_crest_factor);
+  current_crest_factor = optional_in (cell_at l at_current_crest_factor);
   voltage_harmonics = places_in (cell_at l at_voltage_harmonics);
   current_harmonics = places_in (cell_at l at_current_harmonics);
-  efficiency = slot_in (cell_at l at_efficiency);
-  losses = slot_in (cell_at l at_losses);
+  efficiency = optional_in (cell_at l at_efficiency);
+  losses = optional_in (cell_at l at_losses);
   voltage_min = number_in (cell_at l at_voltage_min);
   voltage_max = number_in (cell_at l at_voltage_max);
   current_max = number_in (cell_at l at_current_max);
   power_max = number_in (cell_at l at_power_max);
   is_enabled = flag_in (cell_at l at_is_enabled);
   is_faulted = flag_in (cell_at l at_is_faulted);
-  temperature = slot_in (cell_at l at_temperature);
+  temperature = optional_in (cell_at l at_temperature);
 }
 
 -- 01, item 9, what each setter does: p with the field at i set to x, and all others as they were

@@ -2,7 +2,7 @@
 ghost use Rattle.std.specs.Prelude.{◌≡◌};
 ghost use Rattle.port.specs.Readings.{cleared};
 
-use crate::{Port, Reading, Slot};
+use crate::Port;
 
 impl Port {
     // Every field back to where it starts, whatever it was.
@@ -17,36 +17,32 @@ impl Port {
 pub fn cleared_port() -> Port
     ensures { result ≡ cleared }
 {
-    let none = Slot {
-        reading: Reading::Absent,
-    };
-    let harmonics = [none; 16];
     Port {
         voltage: 0.0,
         current: 0.0,
-        frequency: none,
-        phase_angle: none,
+        frequency: None,
+        phase_angle: None,
         active_power: 0.0,
-        reactive_power: none,
-        apparent_power: none,
-        power_factor: none,
-        displacement_pf: none,
+        reactive_power: None,
+        apparent_power: None,
+        power_factor: None,
+        displacement_pf: None,
         energy_imported: 0.0,
         energy_exported: 0.0,
-        voltage_thd: none,
-        current_thd: none,
-        voltage_crest_factor: none,
-        current_crest_factor: none,
-        voltage_harmonics: harmonics,
-        current_harmonics: harmonics,
-        efficiency: none,
-        losses: none,
+        voltage_thd: None,
+        current_thd: None,
+        voltage_crest_factor: None,
+        current_crest_factor: None,
+        voltage_harmonics: [None; 16],
+        current_harmonics: [None; 16],
+        efficiency: None,
+        losses: None,
         voltage_min: 0.0,
         voltage_max: 0.0,
         current_max: 0.0,
         power_max: 0.0,
         is_enabled: true,
         is_faulted: false,
-        temperature: none,
+        temperature: None,
     }
 }

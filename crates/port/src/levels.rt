@@ -4,7 +4,7 @@ ghost use Rattle.port.specs.Fields.{put, number, reading};
 ghost use Rattle.port.specs.Fields as Fields;
 ghost use Rattle.port.specs.Readings.{instantaneous_power};
 
-use crate::{Port, Reading, Slot};
+use crate::Port;
 
 impl Port {
     // The interface voltage in volts.
@@ -36,54 +36,44 @@ impl Port {
     }
 
     // The interface frequency in hertz; absent for DC.
-    pub fn frequency(self) -> Reading
-        ensures { result ≡ self.frequency.reading }
+    pub fn frequency(self) -> Option<f32>
+        ensures { result ≡ self.frequency }
     {
-        let slot = self.frequency;
-        slot.reading
+        self.frequency
     }
 
-    pub fn set_frequency(mut self, frequency: Reading) -> Self
+    pub fn set_frequency(mut self, frequency: Option<f32>) -> Self
         ensures { result ≡ put self Fields.at_frequency (reading frequency) }
     {
-        let slot = Slot { reading: frequency };
-        self.frequency = slot;
+        self.frequency = frequency;
         self
     }
 
     // The phase angle between voltage and current in degrees.
-    pub fn phase_angle(self) -> Reading
-        ensures { result ≡ self.phase_angle.reading }
+    pub fn phase_angle(self) -> Option<f32>
+        ensures { result ≡ self.phase_angle }
     {
-        let slot = self.phase_angle;
-        slot.reading
+        self.phase_angle
     }
 
-    pub fn set_phase_angle(mut self, phase_angle: Reading) -> Self
+    pub fn set_phase_angle(mut self, phase_angle: Option<f32>) -> Self
         ensures { result ≡ put self Fields.at_phase_angle (reading phase_angle) }
     {
-        let slot = Slot {
-            reading: phase_angle,
-        };
-        self.phase_angle = slot;
+        self.phase_angle = phase_angle;
         self
     }
 
     // The interface temperature in degrees Celsius.
-    pub fn temperature(self) -> Reading
-        ensures { result ≡ self.temperature.reading }
+    pub fn temperature(self) -> Option<f32>
+        ensures { result ≡ self.temperature }
     {
-        let slot = self.temperature;
-        slot.reading
+        self.temperature
     }
 
-    pub fn set_temperature(mut self, temperature: Reading) -> Self
+    pub fn set_temperature(mut self, temperature: Option<f32>) -> Self
         ensures { result ≡ put self Fields.at_temperature (reading temperature) }
     {
-        let slot = Slot {
-            reading: temperature,
-        };
-        self.temperature = slot;
+        self.temperature = temperature;
         self
     }
 

@@ -3,7 +3,7 @@ ghost use Rattle.std.specs.Prelude.{◌≡◌};
 ghost use Rattle.port.specs.Fields.{put, number, reading};
 ghost use Rattle.port.specs.Fields as Fields;
 
-use crate::{Port, Reading, Slot};
+use crate::Port;
 
 impl Port {
     // The active power in watts.
@@ -21,74 +21,58 @@ impl Port {
     }
 
     // The reactive power in vars.
-    pub fn reactive_power(self) -> Reading
-        ensures { result ≡ self.reactive_power.reading }
+    pub fn reactive_power(self) -> Option<f32>
+        ensures { result ≡ self.reactive_power }
     {
-        let slot = self.reactive_power;
-        slot.reading
+        self.reactive_power
     }
 
-    pub fn set_reactive_power(mut self, reactive_power: Reading) -> Self
+    pub fn set_reactive_power(mut self, reactive_power: Option<f32>) -> Self
         ensures { result ≡ put self Fields.at_reactive_power (reading reactive_power) }
     {
-        let slot = Slot {
-            reading: reactive_power,
-        };
-        self.reactive_power = slot;
+        self.reactive_power = reactive_power;
         self
     }
 
     // The apparent power in volt-amps.
-    pub fn apparent_power(self) -> Reading
-        ensures { result ≡ self.apparent_power.reading }
+    pub fn apparent_power(self) -> Option<f32>
+        ensures { result ≡ self.apparent_power }
     {
-        let slot = self.apparent_power;
-        slot.reading
+        self.apparent_power
     }
 
-    pub fn set_apparent_power(mut self, apparent_power: Reading) -> Self
+    pub fn set_apparent_power(mut self, apparent_power: Option<f32>) -> Self
         ensures { result ≡ put self Fields.at_apparent_power (reading apparent_power) }
     {
-        let slot = Slot {
-            reading: apparent_power,
-        };
-        self.apparent_power = slot;
+        self.apparent_power = apparent_power;
         self
     }
 
     // The true power factor.
-    pub fn power_factor(self) -> Reading
-        ensures { result ≡ self.power_factor.reading }
+    pub fn power_factor(self) -> Option<f32>
+        ensures { result ≡ self.power_factor }
     {
-        let slot = self.power_factor;
-        slot.reading
+        self.power_factor
     }
 
-    pub fn set_power_factor(mut self, power_factor: Reading) -> Self
+    pub fn set_power_factor(mut self, power_factor: Option<f32>) -> Self
         ensures { result ≡ put self Fields.at_power_factor (reading power_factor) }
     {
-        let slot = Slot {
-            reading: power_factor,
-        };
-        self.power_factor = slot;
+        self.power_factor = power_factor;
         self
     }
 
     // The displacement power factor.
-    pub fn displacement_pf(self) -> Reading
-        ensures { result ≡ self.displacement_pf.reading }
+    pub fn displacement_pf(self) -> Option<f32>
+        ensures { result ≡ self.displacement_pf }
     {
-        let slot = self.displacement_pf;
-        slot.reading
+        self.displacement_pf
     }
 
-    pub fn set_displacement_pf(mut self, displacement_pf: Reading) -> Self
+    pub fn set_displacement_pf(mut self, displacement_pf: Option<f32>) -> Self
         ensures { result ≡ put self Fields.at_displacement_pf (reading displacement_pf) }
     {
-        let slot = Slot {
-            reading: displacement_pf,
-        };
-        self.displacement_pf = slot;
+        self.displacement_pf = displacement_pf;
         self
     }
 
@@ -121,36 +105,30 @@ impl Port {
     }
 
     // The conversion efficiency in percent.
-    pub fn efficiency(self) -> Reading
-        ensures { result ≡ self.efficiency.reading }
+    pub fn efficiency(self) -> Option<f32>
+        ensures { result ≡ self.efficiency }
     {
-        let slot = self.efficiency;
-        slot.reading
+        self.efficiency
     }
 
-    pub fn set_efficiency(mut self, efficiency: Reading) -> Self
+    pub fn set_efficiency(mut self, efficiency: Option<f32>) -> Self
         ensures { result ≡ put self Fields.at_efficiency (reading efficiency) }
     {
-        let slot = Slot {
-            reading: efficiency,
-        };
-        self.efficiency = slot;
+        self.efficiency = efficiency;
         self
     }
 
     // The estimated losses in watts.
-    pub fn losses(self) -> Reading
-        ensures { result ≡ self.losses.reading }
+    pub fn losses(self) -> Option<f32>
+        ensures { result ≡ self.losses }
     {
-        let slot = self.losses;
-        slot.reading
+        self.losses
     }
 
-    pub fn set_losses(mut self, losses: Reading) -> Self
+    pub fn set_losses(mut self, losses: Option<f32>) -> Self
         ensures { result ≡ put self Fields.at_losses (reading losses) }
     {
-        let slot = Slot { reading: losses };
-        self.losses = slot;
+        self.losses = losses;
         self
     }
 }

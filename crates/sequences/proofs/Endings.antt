@@ -3,6 +3,7 @@
 --     powered_told         `powered`: what its last call says is told where none was refused
 --     told_as_made and the laws behind it          what specs/Told.antt claims
 -- Assumes nothing.
+use Rattle.std.specs.Prelude.{Option}
 use mathlib.Core.Path.{◌≡◌, refl, sym, ap, ◌∙◌}
 use mathlib.Core.List.{List, []}
 use mathlib.Core.Logic.{◌⊎◌, inl, inr, ⊎_elim}
@@ -17,7 +18,6 @@ use Rattle.answers.specs.Numbers.{number_of, if_done}
 use Rattle.answers.proofs.Ended.{if_refused, if_done_lem}
 use Rattle.laws.specs.Literals.{zero32}
 use Rattle.generator.specs.declared.Wave.{Wave}
-use Rattle.port.specs.declared.Reading.{Reading}
 use Rattle.distortion.specs.Editions.{by_edition}
 use Rattle.signal.specs.declared.Metrics.{Metrics}
 use Rattle.signal.specs.State.{zero_metrics, zero_state, fresh}
@@ -69,7 +69,7 @@ module _ (wave : Wave) (amplitude frequency : Float) (edition : ℕ) (cycle : Fl
 abbrev power_answer : Outcome → Float → Measured
 power_answer o y = record { outcome = o; value = y }
 
-module _ (voltage current : Float) (frequency : Reading) (edition : ℕ) (next : Float) (xs : List Float) where
+module _ (voltage current : Float) (frequency : Option Float) (edition : ℕ) (next : Float) (xs : List Float) where
   abbrev set : SignalLeft
   set = with_voltage next (new_port_by voltage current frequency edition xs)
 

@@ -1,5 +1,6 @@
 -- Each call leaves as many samples as there were, refused or not.
 -- Assumes nothing.
+use Rattle.std.specs.Prelude.{Option}
 use mathlib.Core.Path.{◌≡◌, refl}
 use mathlib.Core.Bool.{false}
 use mathlib.Core.List.{List}
@@ -12,7 +13,6 @@ use Rattle.laws.proofs.Filling.{filled_length}
 use Rattle.generator.specs.declared.Wave.{Wave}
 use Rattle.generator.specs.declared.Wave.TheVariants.{DC}
 use Rattle.generator.proofs.Kept.{generated_length}
-use Rattle.port.specs.declared.Reading.{Reading}
 use Rattle.spectrum.specs.Spectrum.{outcome_of}
 use Rattle.distortion.proofs.ByEdition.{by_either}
 use Rattle.signal.specs.declared.State.{State}
@@ -41,7 +41,7 @@ phase_length s phase xs = by_length (edition_in s) _ _ xs
 pub duty_length : (s : State) (duty : Float) (xs : List Float) → length (duty_by s duty xs).places ≡ length xs
 duty_length s duty xs = by_length (edition_in s) _ _ xs
 
-pub port_length : (voltage current : Float) (frequency : Reading) (edition : ℕ) (xs : List Float) → length (new_port_by voltage current frequency edition xs).places ≡ length xs
+pub port_length : (voltage current : Float) (frequency : Option Float) (edition : ℕ) (xs : List Float) → length (new_port_by voltage current frequency edition xs).places ≡ length xs
 unfolding ported
 port_length voltage current frequency edition xs =
     let l = new_by DC voltage zero32 edition xs in

@@ -1,11 +1,10 @@
 -- What a sequence that ends in a reading hands out, and a setting of the port on what the calls before left. Definitions only.
-use Rattle.std.specs.Prelude.{ℕ, ◌≡◌, List, length, Float}
+use Rattle.std.specs.Prelude.{ℕ, ◌≡◌, List, length, Float, Option}
 use Rattle.answers.specs.declared.Outcome.{Outcome}
 use Rattle.answers.specs.declared.Measured.{Measured}
 use Rattle.laws.specs.Literals.{zero32}
 use Rattle.answers.specs.Numbers.{number_of, if_done}
 use Rattle.generator.specs.declared.Wave.{Wave}
-use Rattle.port.specs.declared.Reading.{Reading}
 use Rattle.signal.specs.declared.Answer.{Answer}
 use Rattle.signal.specs.declared.Metrics.{Metrics}
 use Rattle.signal.specs.State.{metrics_of, zero_metrics}
@@ -55,7 +54,7 @@ ToldAsMade =
 
 abbrev pub PowerAsMade : Type 0
 PowerAsMade =
-    (voltage current : Float) (frequency : Reading) (edition : ℕ) (v : Float) (xs : List Float)
+    (voltage current : Float) (frequency : Option Float) (edition : ℕ) (v : Float) (xs : List Float)
     → (power_told (with_voltage v (new_port_by voltage current frequency edition xs)).answer).outcome ≡ outcome_by edition (length xs)
 
 -- and beside it what the last call says where it was made (`told_done`, `power_done`), and zero where it was refused (`told_refused`, `power_refused`)
@@ -71,13 +70,13 @@ ToldRefused =
 
 abbrev pub PowerDone : Type 0
 PowerDone =
-    (voltage current : Float) (frequency : Reading) (edition : ℕ) (v : Float) (xs : List Float) → number_of (outcome_by edition (length xs)) ≡ 0
+    (voltage current : Float) (frequency : Option Float) (edition : ℕ) (v : Float) (xs : List Float) → number_of (outcome_by edition (length xs)) ≡ 0
     → (power_told (with_voltage v (new_port_by voltage current frequency edition xs)).answer).value
     ≡ instantaneous_power (with_voltage v (new_port_by voltage current frequency edition xs)).answer.state.port
 
 abbrev pub PowerRefused : Type 0
 PowerRefused =
-    (voltage current : Float) (frequency : Reading) (edition : ℕ) (v : Float) (xs : List Float) → (number_of (outcome_by edition (length xs)) ≡ 0 → ⊥)
+    (voltage current : Float) (frequency : Option Float) (edition : ℕ) (v : Float) (xs : List Float) → (number_of (outcome_by edition (length xs)) ≡ 0 → ⊥)
     → (power_told (with_voltage v (new_port_by voltage current frequency edition xs)).answer).value ≡ zero32
 
 -- a setting of a signal that was made is not refused (`set_after_made`)

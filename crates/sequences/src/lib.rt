@@ -13,7 +13,6 @@ ghost use Rattle.sequences.specs.Told.{with_voltage, measured_after, power_told}
 use answers::{Measured, Outcome};
 use generator::Wave;
 use held::Signal;
-use port::Reading;
 use signal::{Answer, Metrics};
 
 // How the signal was made, and what is measured.
@@ -87,7 +86,7 @@ pub fn measured(
 pub fn powered(
     voltage: f32,
     current: f32,
-    frequency: Reading,
+    frequency: Option<f32>,
     edition: u8,
     next: f32,
     samples: &mut [f32],

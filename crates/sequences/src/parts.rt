@@ -10,7 +10,6 @@ ghost use Rattle.sequences.specs.Told.{with_voltage, metrics_in, port_power};
 use answers::Outcome;
 use generator::Wave;
 use held::Signal;
-use port::Reading;
 use signal::Metrics;
 
 // How a signal of this edition over n samples is made: 9, 3, 4 or done.
@@ -44,7 +43,7 @@ pub fn metrics_after(
 pub fn power_after(
     voltage: f32,
     current: f32,
-    frequency: Reading,
+    frequency: Option<f32>,
     edition: u8,
     next: f32,
     samples: &mut [f32],

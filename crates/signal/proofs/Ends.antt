@@ -1,4 +1,5 @@
 -- How a call over a refused or a taken length ends. Assumes nothing.
+use Rattle.std.specs.Prelude.{Option}
 use mathlib.Core.Path.{◌≡◌, sym, ◌∙◌}
 use mathlib.Core.Bool.{Bool, false, not}
 use mathlib.Core.List.{List}
@@ -10,7 +11,6 @@ use Rattle.answers.specs.declared.Outcome.TheVariants.{Done, OutputShort, TooLon
 use Rattle.answers.specs.Left.{left}
 use Rattle.answers.specs.Numbers.{number_of, if_done, refuse}
 use Rattle.answers.proofs.Ended.{if_refused, if_done_lem}
-use Rattle.port.specs.declared.Reading.{Reading}
 use Rattle.spectrum.specs.Spectrum.{outcome_of}
 use Rattle.signal.specs.declared.State.{State}
 use Rattle.signal.specs.declared.Answer.{Answer}
@@ -34,7 +34,7 @@ module _ (s : State) (xs : List Float) (done : SignalLeft) (o : Outcome) (d : �
 
 -- ---- a port: `new` left a and ys
 
-module _ (v c : Float) (f : Reading) (l : SignalLeft) (ys : List Float) (a : Answer) (d : ℕ) (number : d ≡ number_of a.outcome) (h : left a ys ≡ l) where
+module _ (v c : Float) (f : Option Float) (l : SignalLeft) (ys : List Float) (a : Answer) (d : ℕ) (number : d ≡ number_of a.outcome) (h : left a ys ≡ l) where
   abbrev done : SignalLeft
   done = left (answer a.outcome (as_port a.state v c f)) ys
 

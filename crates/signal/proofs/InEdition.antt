@@ -1,4 +1,5 @@
 -- The calls by edition: how they end, that they are those over its highest order, and that the edition stays. Assumes nothing.
+use Rattle.std.specs.Prelude.{Option}
 use mathlib.Core.Path.{◌≡◌, refl, sym, ap, subst, ◌∙◌}
 use mathlib.Core.Bool.{Bool, true, false, cond}
 use mathlib.Core.List.{List, [], ◌∷◌}
@@ -15,7 +16,6 @@ use Rattle.answers.specs.Numbers.{number_of, if_done, too_long}
 use Rattle.answers.proofs.Ended.{if_either, if_refused}
 use Rattle.generator.specs.declared.Wave.{Wave}
 use Rattle.generator.specs.declared.Wave.TheVariants.{DC}
-use Rattle.port.specs.declared.Reading.{Reading}
 use Rattle.spectrum.specs.Grid.{on_grid}
 use Rattle.spectrum.specs.Spectrum.{outcome_of}
 use Rattle.distortion.specs.Editions.{by_edition, highest_order, Known}
@@ -52,7 +52,7 @@ remade_by_ends edition earlier next xs =
     ∙ by_same edition (λ (top : ℕ). (remade top earlier next xs).answer.outcome) (λ (top : ℕ). outcome_of (length xs) false) UnknownEdition (λ top. remade_ends top earlier next xs)
 
 -- the readings of a port change no outcome
-ported_ends : (voltage current : Float) (frequency : Reading) (l : SignalLeft) → (ported voltage current frequency l).answer.outcome ≡ l.answer.outcome
+ported_ends : (voltage current : Float) (frequency : Option Float) (l : SignalLeft) → (ported voltage current frequency l).answer.outcome ≡ l.answer.outcome
 unfolding ported
 ported_ends voltage current frequency l = if_either (λ (m : SignalLeft). m.answer.outcome ≡ l.answer.outcome) l.answer.outcome _ l refl refl
 
@@ -165,7 +165,7 @@ new_edition wave amplitude frequency edition xs z =
 pub named_new : NamedNew
 named_new wave amplitude frequency edition xs cs z = edition_kept (new_by wave amplitude frequency edition xs) cs ∙ new_edition wave amplitude frequency edition xs z
 
-ported_edition : (voltage current : Float) (frequency : Reading) (l : SignalLeft) → edition_after (ported voltage current frequency l) ≡ edition_after l
+ported_edition : (voltage current : Float) (frequency : Option Float) (l : SignalLeft) → edition_after (ported voltage current frequency l) ≡ edition_after l
 unfolding ported as_port
 ported_edition voltage current frequency l = if_either (λ (m : SignalLeft). edition_after m ≡ edition_after l) l.answer.outcome _ l refl refl
 

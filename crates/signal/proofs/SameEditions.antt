@@ -1,4 +1,5 @@
 -- With no order above 16 below half, the two editions differ in their number alone. Assumes nothing.
+use Rattle.std.specs.Prelude.{Option}
 use mathlib.Core.Path.{◌≡◌, refl, sym, ap, ◌∙◌}
 use mathlib.Core.Bool.{Bool, true, false, cond, ◌&&◌, false≢true}
 use mathlib.Core.Logic.{inl, inr}
@@ -17,7 +18,6 @@ use Rattle.answers.proofs.Ended.{if_either}
 use Rattle.generator.specs.declared.Wave.TheVariants.{DC}
 use Rattle.generator.specs.Sample.{generated}
 use Rattle.generator.proofs.Kept.{generated_length}
-use Rattle.port.specs.declared.Reading.{Reading}
 use Rattle.spectrum.specs.Spectrum.{outcome_of}
 use Rattle.distortion.specs.Thd.{fundamental_bin, usable}
 use Rattle.distortion.specs.Editions.{by_edition}
@@ -130,7 +130,7 @@ none_at_zero top n u h l = go (ltb 1 (n / 2)) u
     go true e = absurd (false≢true e)
     go false e = absurd (false≢true e)
 
-ported_numbered : (voltage current : Float) (frequency : Reading) (l : SignalLeft) → ported voltage current frequency (numbered_as 2 l) ≡ numbered_as 2 (ported voltage current frequency l)
+ported_numbered : (voltage current : Float) (frequency : Option Float) (l : SignalLeft) → ported voltage current frequency (numbered_as 2 l) ≡ numbered_as 2 (ported voltage current frequency l)
 unfolding ported as_port
 ported_numbered voltage current frequency l = sym (if_numbered 2 16 l.answer.outcome _ l)
 

@@ -1,4 +1,5 @@
 -- Records put together from what the calls give. Assumes nothing.
+use Rattle.std.specs.Prelude.{Option, Some}
 use mathlib.Core.Path.{◌≡◌, ap}
 use mathlib.Core.List.{List}
 use Prim.Native.Nat.{ℕ}
@@ -10,8 +11,6 @@ use Rattle.answers.specs.declared.Outcome.TheVariants.{Done}
 use Rattle.answers.specs.Left.{Left, left}
 use Rattle.generator.specs.Sample.{generated}
 use Rattle.port.specs.declared.Port.{Port}
-use Rattle.port.specs.declared.Reading.{Reading}
-use Rattle.port.specs.declared.Reading.TheVariants.{Number}
 use Rattle.port.specs.Fields.{put, number, reading, at_voltage, at_current, at_frequency, at_phase_angle, at_active_power, at_apparent_power, at_power_factor, at_displacement_pf}
 use Rattle.figures.specs.declared.TimeAnswer.{TimeAnswer}
 use Rattle.figures.specs.Figures.{answer_of}
@@ -35,11 +34,11 @@ made_whole top s r xs ys o g e = let p : ys ≡ (generated s.shape xs).places = 
 pub remade_same : (edition : ℕ) (e e' n n' : State) (xs : List Float) (l : SignalLeft) → e ≡ e' → n ≡ n' → l ≡ remade_by edition e n xs → l ≡ remade_by edition e' n' xs
 remade_same edition e e' n n' xs l p q h = rw (← p, ← q) h
 
-pub port_whole : (s : State) (voltage current : Float) (frequency : Reading) (apparent : Float) (p1 p2 p3 p4 p5 p6 p7 p8 : Port)
+pub port_whole : (s : State) (voltage current : Float) (frequency : Option Float) (apparent : Float) (p1 p2 p3 p4 p5 p6 p7 p8 : Port)
     → apparent ≡ abs (mul binary32 voltage current)
     → p1 ≡ put s.port at_voltage (number voltage) → p2 ≡ put p1 at_current (number current) → p3 ≡ put p2 at_frequency (reading frequency)
-    → p4 ≡ put p3 at_phase_angle (reading (Number zero32)) → p5 ≡ put p4 at_active_power (number (mul binary32 voltage current))
-    → p6 ≡ put p5 at_apparent_power (reading (Number apparent)) → p7 ≡ put p6 at_power_factor (reading (Number one32)) → p8 ≡ put p7 at_displacement_pf (reading (Number one32))
+    → p4 ≡ put p3 at_phase_angle (reading (Some zero32)) → p5 ≡ put p4 at_active_power (number (mul binary32 voltage current))
+    → p6 ≡ put p5 at_apparent_power (reading (Some apparent)) → p7 ≡ put p6 at_power_factor (reading (Some one32)) → p8 ≡ put p7 at_displacement_pf (reading (Some one32))
     → ◌≡◌ {A = State} (record { shape = s.shape; port = p8; metrics = s.metrics }) (as_port s voltage current frequency)
 unfolding as_port
 port_whole s voltage current frequency apparent p1 p2 p3 p4 p5 p6 p7 p8 ea e1 e2 e3 e4 e5 e6 e7 e8 = rw (e8, e7, e6, e5, e4, e3, e2, e1, ea)

@@ -1,5 +1,5 @@
 -- What a call leaves behind: how it ended, the state, and the samples. Definitions only.
-use Rattle.std.specs.Prelude.{ℕ, false, List, length, Float}
+use Rattle.std.specs.Prelude.{ℕ, false, List, length, Float, Option}
 use Rattle.answers.specs.declared.Outcome.{Outcome}
 use Rattle.answers.specs.declared.Outcome.TheVariants.{Done}
 use Rattle.answers.specs.Left.{Left, left}
@@ -9,7 +9,6 @@ use Rattle.laws.specs.Literals.{zero32}
 use Rattle.generator.specs.declared.Wave.{Wave}
 use Rattle.generator.specs.declared.Wave.TheVariants.{DC}
 use Rattle.generator.specs.Sample.{generated}
-use Rattle.port.specs.declared.Reading.{Reading}
 use Rattle.spectrum.specs.Spectrum.{outcome_of}
 use Rattle.signal.specs.declared.State.{State}
 use Rattle.signal.specs.declared.Answer.{Answer}
@@ -51,12 +50,12 @@ abbrev pub duty_set : ℕ → State → Float → List Float → SignalLeft
 duty_set top s duty xs = remade top s (with_duty s duty) xs
 
 -- 01, item 10, `new_power_port`: the Rust's `new` of a DC wave of that amplitude and frequency 0, and then its readings set; what `new` refused stays as it is
-unfoldable pub ported : Float → Float → Reading → SignalLeft → SignalLeft
+unfoldable pub ported : Float → Float → Option Float → SignalLeft → SignalLeft
 ported voltage current frequency l =
     let o = l.answer.outcome in
     if_done o (left (answer o (as_port l.answer.state voltage current frequency)) l.places) l
 
-abbrev pub new_port_of : ℕ → Float → Float → Reading → ℕ → List Float → SignalLeft
+abbrev pub new_port_of : ℕ → Float → Float → Option Float → ℕ → List Float → SignalLeft
 new_port_of top voltage current frequency edition xs = ported voltage current frequency (new_of top DC voltage zero32 edition xs)
 
 -- 01, item 10, `reset_waveform`: every sample 0, and the state of silence

@@ -1,8 +1,7 @@
 -- What the state's two counts say of the caller's samples, call by call (02, h), over any highest order, and so by edition where it is known (`KnownRun`,
 -- InEdition.antt). Definitions only; each claim is proved in proofs/Counted.antt.
-use Rattle.std.specs.Prelude.{ℕ, ◌<◌, ◌≡◌, List, length, Float}
+use Rattle.std.specs.Prelude.{ℕ, ◌<◌, ◌≡◌, List, length, Float, Option}
 use Rattle.generator.specs.declared.Wave.{Wave}
-use Rattle.port.specs.declared.Reading.{Reading}
 use Rattle.figures.specs.declared.TimeFigures.{TimeFigures}
 use Rattle.figures.specs.Counted.{HasCounts}
 use Rattle.signal.specs.State.{metrics_of}
@@ -24,7 +23,7 @@ CountsNew =
 
 abbrev pub CountsPort : Type 0
 CountsPort =
-    (top : ℕ) (voltage current : Float) (frequency : Reading) (edition : ℕ) (xs : List Float) → Taken xs → CountsOwn (new_port_of top voltage current frequency edition xs)
+    (top : ℕ) (voltage current : Float) (frequency : Option Float) (edition : ℕ) (xs : List Float) → Taken xs → CountsOwn (new_port_of top voltage current frequency edition xs)
 
 -- and after each later call on at least one sample, whatever state and samples were handed to it (`counts_next`)
 abbrev pub CountsNext : Type 0

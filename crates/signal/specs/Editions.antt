@@ -1,13 +1,12 @@
 -- The calls by the edition's number: 9 first, and else the call over the edition's highest order. 02, e: "Demand 2 speaks of edition 1, edition 2 follows the
 -- same rule with 40". The contracts cite these. Definitions only.
-use Rattle.std.specs.Prelude.{ℕ, false, List, [], ◌∷◌, Float}
+use Rattle.std.specs.Prelude.{ℕ, false, List, [], ◌∷◌, Float, Option}
 use Rattle.answers.specs.declared.Outcome.{Outcome}
 use Rattle.answers.specs.declared.Outcome.TheVariants.{UnknownEdition}
 use Rattle.answers.specs.Left.{left}
 use Rattle.laws.specs.Literals.{zero32}
 use Rattle.generator.specs.declared.Wave.{Wave}
 use Rattle.generator.specs.declared.Wave.TheVariants.{DC}
-use Rattle.port.specs.declared.Reading.{Reading}
 use Rattle.spectrum.specs.Spectrum.{outcome_of}
 use Rattle.distortion.specs.Editions.{by_edition}
 use Rattle.signal.specs.declared.State.{State}
@@ -24,7 +23,7 @@ remade_by edition earlier next xs = by_edition edition (λ (top : ℕ). remade t
 abbrev pub new_by : Wave → Float → Float → ℕ → List Float → SignalLeft
 new_by wave amplitude frequency edition xs = remade_by edition zero_state (fresh wave amplitude frequency edition) xs
 
-abbrev pub new_port_by : Float → Float → Reading → ℕ → List Float → SignalLeft
+abbrev pub new_port_by : Float → Float → Option Float → ℕ → List Float → SignalLeft
 new_port_by voltage current frequency edition xs = ported voltage current frequency (new_by DC voltage zero32 edition xs)
 
 -- the edition that a state holds

@@ -1,11 +1,10 @@
 -- What is claimed of the calls by edition (02, e). Definitions only; the claims are proved in proofs/InEdition.antt, the last three in proofs/SameEditions.antt.
-use Rattle.std.specs.Prelude.{ℕ, ◌≡◌, false, List, length, Float}
+use Rattle.std.specs.Prelude.{ℕ, ◌≡◌, false, List, length, Float, Option}
 use Rattle.answers.specs.Left.{left}
 use Rattle.answers.specs.Numbers.{number_of}
 use Rattle.laws.specs.Literals.{zero32}
 use Rattle.generator.specs.declared.Wave.{Wave}
 use Rattle.generator.specs.declared.Wave.TheVariants.{DC}
-use Rattle.port.specs.declared.Reading.{Reading}
 use Rattle.spectrum.specs.Spectrum.{outcome_of}
 use Rattle.distortion.specs.Thd.{thd_of}
 use Rattle.distortion.specs.Editions.{highest_order, Known}
@@ -30,7 +29,7 @@ EndsNew = (wave : Wave) (amplitude frequency : Float) (edition : ℕ) (xs : List
 
 abbrev pub EndsPort : Type 0
 EndsPort =
-    (voltage current : Float) (frequency : Reading) (edition : ℕ) (xs : List Float) → (new_port_by voltage current frequency edition xs).answer.outcome ≡ outcome_by edition (length xs)
+    (voltage current : Float) (frequency : Option Float) (edition : ℕ) (xs : List Float) → (new_port_by voltage current frequency edition xs).answer.outcome ≡ outcome_by edition (length xs)
 
 abbrev pub EndsSet : Type 0
 EndsSet = (l : SignalLeft) (c : Setting) → (next_by l (setting c)).answer.outcome ≡ outcome_by (edition_after l) (length l.places)
@@ -55,7 +54,7 @@ RefusedNew =
 
 abbrev pub RefusedPort : Type 0
 RefusedPort =
-    (voltage current : Float) (frequency : Reading) (edition : ℕ) (xs : List Float) → (number_of (outcome_by edition (length xs)) ≡ 0 → ⊥)
+    (voltage current : Float) (frequency : Option Float) (edition : ℕ) (xs : List Float) → (number_of (outcome_by edition (length xs)) ≡ 0 → ⊥)
     → new_port_by voltage current frequency edition xs ≡ left (answer (outcome_by edition (length xs)) zero_state) xs
 
 abbrev pub RefusedSet : Type 0
@@ -76,7 +75,7 @@ KnownNew =
 
 abbrev pub KnownPort : Type 0
 KnownPort =
-    (voltage current : Float) (frequency : Reading) (edition : ℕ) (xs : List Float) → Known edition
+    (voltage current : Float) (frequency : Option Float) (edition : ℕ) (xs : List Float) → Known edition
     → new_port_by voltage current frequency edition xs ≡ new_port_of (highest_order edition) voltage current frequency edition xs
 
 abbrev pub KnownRun : Type 0
@@ -96,7 +95,7 @@ ThdSet =
 -- a port's record is that of the constant wave that it is made of
 abbrev pub PortMetrics : Type 0
 PortMetrics =
-    (voltage current : Float) (frequency : Reading) (edition : ℕ) (xs : List Float)
+    (voltage current : Float) (frequency : Option Float) (edition : ℕ) (xs : List Float)
     → metrics_of (new_port_by voltage current frequency edition xs).answer.state ≡ metrics_of (new_by DC voltage zero32 edition xs).answer.state
 
 -- ---- "the caller names the edition where the signal is made, the signal keeps it through every reset, and each record carries its number"
@@ -113,7 +112,7 @@ NamedNew =
 
 abbrev pub NamedPort : Type 0
 NamedPort =
-    (voltage current : Float) (frequency : Reading) (edition : ℕ) (xs : List Float) (cs : List Later)
+    (voltage current : Float) (frequency : Option Float) (edition : ℕ) (xs : List Float) (cs : List Later)
     → number_of (new_port_by voltage current frequency edition xs).answer.outcome ≡ 0
     → edition_after (run_by (new_port_by voltage current frequency edition xs) cs) ≡ edition
 
@@ -134,7 +133,7 @@ SameNew =
 -- a port, which has no usable fundamental bin (`same_port`)
 abbrev pub SamePort : Type 0
 SamePort =
-    (voltage current : Float) (frequency : Reading) (xs : List Float) → Taken xs
+    (voltage current : Float) (frequency : Option Float) (xs : List Float) → Taken xs
     → new_port_by voltage current frequency 2 xs ≡ numbered_as 2 (new_port_by voltage current frequency 1 xs)
 
 -- and either through any later calls (`same_run`)

@@ -1,14 +1,13 @@
 -- Later calls, one after another, each on what the call before left behind. 01, 'How much a contract has to say', what must not pass: "a `Signal` right at
 -- `new` that only pretends at later settings (demand 2, call by call)". The calls are those over any highest order; by the edition's number they stand in
 -- Editions.antt, and are these where it is known (`KnownRun`, InEdition.antt). Definitions only.
-use Rattle.std.specs.Prelude.{ℕ, ◌≡◌, ◌⊎◌, true, false, List, [], ◌∷◌, length, Float}
+use Rattle.std.specs.Prelude.{ℕ, ◌≡◌, ◌⊎◌, true, false, List, [], ◌∷◌, length, Float, Some}
 use Rattle.answers.specs.Numbers.{too_long}
 use Rattle.laws.specs.Literals.{zero32}
 use Rattle.generator.specs.declared.Shape.{Shape}
 use Rattle.generator.specs.Sample.{shape_of}
 use Rattle.spectrum.specs.Grid.{on_grid}
 use Rattle.port.specs.declared.Port.{Port}
-use Rattle.port.specs.declared.Reading.TheVariants.{Number}
 use Rattle.port.specs.Fields.{cells, cell_at, at_voltage, at_voltage_thd, at_voltage_crest_factor}
 use Rattle.figures.specs.declared.TimeFigures.{TimeFigures}
 use Rattle.figures.specs.Figures.{zero_figures}
@@ -59,8 +58,8 @@ Refused xs = (too_long (length xs) ≡ true) ⊎ (on_grid (length xs) ≡ false)
 -- the three readings that follow a measurement show these figures of this wave, and this THD (`readings_after`)
 pub record Shows (shape : Shape) (figures : TimeFigures) (thd : Float) (p : Port) : Type 0 where
   pub level : p.voltage ≡ voltage_of shape.wave figures
-  pub crest : p.voltage_crest_factor.reading ≡ Number figures.crest_factor
-  pub distortion : p.voltage_thd.reading ≡ Number thd
+  pub crest : p.voltage_crest_factor ≡ Some figures.crest_factor
+  pub distortion : p.voltage_thd ≡ Some thd
 
 -- those that the state itself has (`readings_new`, `readings_follow`)
 abbrev pub ShowsOwn : State → Type 0
@@ -77,8 +76,8 @@ pub record Quiet (shape : Shape) (s : State) : Type 0 where
   pub figures : (metrics_of s).figures ≡ zero_figures
   pub thd : (metrics_of s).thd ≡ zero32
   pub level : s.port.voltage ≡ zero32
-  pub crest : s.port.voltage_crest_factor.reading ≡ Number zero32
-  pub distortion : s.port.voltage_thd.reading ≡ Number zero32
+  pub crest : s.port.voltage_crest_factor ≡ Some zero32
+  pub distortion : s.port.voltage_thd ≡ Some zero32
 
 -- 01, "Nothing but 0 writes to what was lent", and "a signal state .. handed in comes back unchanged" (`refused_run`)
 pub record Unmoved (before after : SignalLeft) : Type 0 where

@@ -1,5 +1,5 @@
 -- A signal's state: where it starts, what a setting changes, and what is measured of the samples. Definitions only.
-use Rattle.std.specs.Prelude.{ℕ, false, cond, List, [], ◌∷◌, Float}
+use Rattle.std.specs.Prelude.{ℕ, false, cond, List, [], ◌∷◌, Float, Option, Some, None}
 use Rattle.std.specs.Float.{binary32}
 use Rattle.std.specs.Float.Ieee.{mul, lt}
 use Rattle.laws.specs.Literals.{zero32, one32}
@@ -9,8 +9,6 @@ use Rattle.generator.specs.declared.Wave.TheVariants.{DC, PWM, Triangular, Sawto
 use Rattle.generator.specs.declared.Shape.{Shape}
 use Rattle.generator.specs.Sample.{shape_of, half}
 use Rattle.port.specs.declared.Port.{Port}
-use Rattle.port.specs.declared.Reading.{Reading}
-use Rattle.port.specs.declared.Reading.TheVariants.{Number, Absent}
 use Rattle.port.specs.Fields.{put, SetTo, set_to, puts, number, reading, flag}
 use Rattle.port.specs.Fields.{at_voltage, at_current, at_frequency, at_phase_angle, at_active_power, at_apparent_power, at_power_factor, at_displacement_pf}
 use Rattle.port.specs.Fields.{at_voltage_thd, at_voltage_crest_factor, at_is_enabled}
@@ -47,8 +45,8 @@ of_kind Triangular a b = b
 of_kind Sawtooth a b = b
 
 -- the Rust's `if is_dc { None } else { Some(frequency) }`
-abbrev pub frequency_reading : Wave → Float → Reading
-frequency_reading wave frequency = of_kind wave Absent (Number frequency)
+abbrev pub frequency_reading : Wave → Float → Option Float
+frequency_reading wave frequency = of_kind wave None (Some frequency)
 
 -- phase 0, duty cycle a half, nothing measured; a port with its defaults and that frequency. The Rust puts the amplitude into the voltage here: `with_measured`
 -- replaces it before anyone reads it. 02, e: "the caller names the edition where the signal is made"
@@ -84,8 +82,8 @@ voltage_of wave f = of_kind wave f.average f.dc_rms
 abbrev pub level_rows : Float → Float → Float → List SetTo
 level_rows voltage crest thd =
     set_to at_voltage (number voltage) ∷
-    set_to at_voltage_crest_factor (reading (Number crest)) ∷
-    set_to at_voltage_thd (reading (Number thd)) ∷
+    set_to at_voltage_crest_factor (reading (Some crest)) ∷
+    set_to at_voltage_thd (reading (Some thd)) ∷
     []
 
 unfoldable pub levelled : Port → Float → Float → Float → Port
@@ -105,7 +103,7 @@ silenced s = record { shape = s.shape; port = levelled s.port zero32 zero32 zero
 
 -- ---- 01, item 10, `new_power_port`: the readings that it sets on a signal that `new` made, in the Rust's order
 
-abbrev pub port_rows : Float → Float → Reading → List SetTo
+abbrev pub port_rows : Float → Float → Option Float → List SetTo
 port_rows voltage current frequency =
     -- the Rust's `instantaneous_power()`, of the voltage and current that are set first
     let power = mul binary32 voltage current in
@@ -115,18 +113,18 @@ port_rows voltage current frequency =
     -- the frequency given, a number or absent
     set_to at_frequency (reading frequency) ∷
     -- `Some(0.0)`
-    set_to at_phase_angle (reading (Number zero32)) ∷
+    set_to at_phase_angle (reading (Some zero32)) ∷
     -- the power, with its sign
     set_to at_active_power (number power) ∷
     -- its size, `fabsf`
-    set_to at_apparent_power (reading (Number (abs power))) ∷
+    set_to at_apparent_power (reading (Some (abs power))) ∷
     -- `Some(1.0)`, both
-    set_to at_power_factor (reading (Number one32)) ∷
-    set_to at_displacement_pf (reading (Number one32)) ∷
+    set_to at_power_factor (reading (Some one32)) ∷
+    set_to at_displacement_pf (reading (Some one32)) ∷
     []
 
 -- nothing but the port changes
-unfoldable pub as_port : State → Float → Float → Reading → State
+unfoldable pub as_port : State → Float → Float → Option Float → State
 as_port s voltage current frequency = record {
   shape = s.shape;
   port = puts s.port (port_rows voltage current frequency);

@@ -12,7 +12,7 @@ ghost use Rattle.signal.specs.Editions.{new_by, new_port_by, phase_by, duty_by};
 use answers::Outcome;
 use figures::TimeFigures;
 use generator::{Shape, Wave};
-use port::{Port, Reading};
+use port::Port;
 
 // What is measured of a signal: the time figures with their two counts, and THD. Its orders go as high as the edition says, 1 or 2. A `new` that was refused
 // has 0, and a caller may write any number: where THD is worked out these are refused.
@@ -54,7 +54,7 @@ pub fn new(wave: Wave, amplitude: f32, frequency: f32, edition: u8, samples: &mu
 pub fn new_power_port(
     voltage: f32,
     current: f32,
-    frequency: Reading,
+    frequency: Option<f32>,
     edition: u8,
     samples: &mut [f32],
 ) -> Answer

@@ -12,7 +12,7 @@ use crate::{Answer, Metrics, State};
 use answers::Outcome;
 use figures::{TimeFigures, ZERO_FIGURES};
 use generator::{Shape, Wave};
-use port::{Port, Reading};
+use port::Port;
 
 // Nothing is measured, in this edition.
 fn unmeasured(edition: u8) -> Metrics
@@ -46,14 +46,14 @@ pub fn zero_state() -> State
 }
 
 // The frequency as a reading: absent for DC.
-fn frequency_of(wave: Wave, frequency: f32) -> Reading
+fn frequency_of(wave: Wave, frequency: f32) -> Option<f32>
     ensures { result ≡ S.frequency_reading wave frequency }
 {
     match wave {
-        Wave::DC => Reading::Absent,
-        Wave::PWM => Reading::Number(frequency),
-        Wave::Triangular => Reading::Number(frequency),
-        Wave::Sawtooth => Reading::Number(frequency),
+        Wave::DC => None,
+        Wave::PWM => Some(frequency),
+        Wave::Triangular => Some(frequency),
+        Wave::Sawtooth => Some(frequency),
     }
 }
 
@@ -127,8 +127,8 @@ fn levelled(port: Port, voltage: f32, crest: f32, thd: f32) -> Port
     ensures { result ≡ S.levelled port voltage crest thd }
 {
     port.set_voltage(voltage)
-        .set_voltage_crest_factor(Reading::Number(crest))
-        .set_voltage_thd(Reading::Number(thd))
+        .set_voltage_crest_factor(Some(crest))
+        .set_voltage_thd(Some(thd))
 }
 
 // The state with what is measured of the samples, THD of orders up to `top`.
@@ -244,7 +244,7 @@ pub fn silenced(state: State) -> State
 }
 
 // The readings of a port of this voltage and current.
-pub fn as_port(state: State, voltage: f32, current: f32, frequency: Reading) -> State
+pub fn as_port(state: State, voltage: f32, current: f32, frequency: Option<f32>) -> State
     ensures { result ≡ S.as_port state voltage current frequency }
 {
     let power = voltage * current;
@@ -254,11 +254,11 @@ pub fn as_port(state: State, voltage: f32, current: f32, frequency: Reading) -> 
         .set_voltage(voltage)
         .set_current(current)
         .set_frequency(frequency)
-        .set_phase_angle(Reading::Number(0.0))
+        .set_phase_angle(Some(0.0))
         .set_active_power(power)
-        .set_apparent_power(Reading::Number(apparent))
-        .set_power_factor(Reading::Number(1.0))
-        .set_displacement_pf(Reading::Number(1.0));
+        .set_apparent_power(Some(apparent))
+        .set_power_factor(Some(1.0))
+        .set_displacement_pf(Some(1.0));
     let mut out = state;
     out.port = next;
     out
