@@ -1,5 +1,5 @@
 -- How a port crosses the boundary: as a flat record, in which a reading is a flag and a value. Definitions only.
-use Rattle.std.specs.Prelude.{true, false, cond, map, Option, Some, None}
+use Rattle.std.specs.Prelude.{true, false, cond, map, Option, Some, None, Float}
 use Rattle.laws.specs.Literals.{zero32}
 use Rattle.port.specs.declared.Port.{Port}
 use Rattle.crossing.specs.declared.readings.TjReading.{TjReading}
@@ -14,69 +14,63 @@ abbrev pub reading_out : Option Float → TjReading
 reading_out (Some x) = record { present = true; value = x }
 reading_out None = record { present = false; value = zero32 }
 
-abbrev pub slot_in : TjReading → Option Float
-slot_in r = reading_in r
-
-abbrev pub slot_out : Option Float → TjReading
-slot_out s = reading_out s.reading
-
 -- field by field
 abbrev pub port_in : TjPort → Port
 port_in p = record {
   voltage = p.voltage;
   current = p.current;
-  frequency = slot_in p.frequency;
-  phase_angle = slot_in p.phase_angle;
+  frequency = reading_in p.frequency;
+  phase_angle = reading_in p.phase_angle;
   active_power = p.active_power;
-  reactive_power = slot_in p.reactive_power;
-  apparent_power = slot_in p.apparent_power;
-  power_factor = slot_in p.power_factor;
-  displacement_pf = slot_in p.displacement_pf;
+  reactive_power = reading_in p.reactive_power;
+  apparent_power = reading_in p.apparent_power;
+  power_factor = reading_in p.power_factor;
+  displacement_pf = reading_in p.displacement_pf;
   energy_imported = p.energy_imported;
   energy_exported = p.energy_exported;
-  voltage_thd = slot_in p.voltage_thd;
-  current_thd = slot_in p.current_thd;
-  voltage_crest_factor = slot_in p.voltage_crest_factor;
-  current_crest_factor = slot_in p.current_crest_factor;
-  voltage_harmonics = map slot_in p.voltage_harmonics;
-  current_harmonics = map slot_in p.current_harmonics;
-  efficiency = slot_in p.efficiency;
-  losses = slot_in p.losses;
+  voltage_thd = reading_in p.voltage_thd;
+  current_thd = reading_in p.current_thd;
+  voltage_crest_factor = reading_in p.voltage_crest_factor;
+  current_crest_factor = reading_in p.current_crest_factor;
+  voltage_harmonics = map reading_in p.voltage_harmonics;
+  current_harmonics = map reading_in p.current_harmonics;
+  efficiency = reading_in p.efficiency;
+  losses = reading_in p.losses;
   voltage_min = p.voltage_min;
   voltage_max = p.voltage_max;
   current_max = p.current_max;
   power_max = p.power_max;
   is_enabled = p.is_enabled;
   is_faulted = p.is_faulted;
-  temperature = slot_in p.temperature;
+  temperature = reading_in p.temperature;
 }
 
 abbrev pub port_out : Port → TjPort
 port_out p = record {
   voltage = p.voltage;
   current = p.current;
-  frequency = slot_out p.frequency;
-  phase_angle = slot_out p.phase_angle;
+  frequency = reading_out p.frequency;
+  phase_angle = reading_out p.phase_angle;
   active_power = p.active_power;
-  reactive_power = slot_out p.reactive_power;
-  apparent_power = slot_out p.apparent_power;
-  power_factor = slot_out p.power_factor;
-  displacement_pf = slot_out p.displacement_pf;
+  reactive_power = reading_out p.reactive_power;
+  apparent_power = reading_out p.apparent_power;
+  power_factor = reading_out p.power_factor;
+  displacement_pf = reading_out p.displacement_pf;
   energy_imported = p.energy_imported;
   energy_exported = p.energy_exported;
-  voltage_thd = slot_out p.voltage_thd;
-  current_thd = slot_out p.current_thd;
-  voltage_crest_factor = slot_out p.voltage_crest_factor;
-  current_crest_factor = slot_out p.current_crest_factor;
-  voltage_harmonics = map slot_out p.voltage_harmonics;
-  current_harmonics = map slot_out p.current_harmonics;
-  efficiency = slot_out p.efficiency;
-  losses = slot_out p.losses;
+  voltage_thd = reading_out p.voltage_thd;
+  current_thd = reading_out p.current_thd;
+  voltage_crest_factor = reading_out p.voltage_crest_factor;
+  current_crest_factor = reading_out p.current_crest_factor;
+  voltage_harmonics = map reading_out p.voltage_harmonics;
+  current_harmonics = map reading_out p.current_harmonics;
+  efficiency = reading_out p.efficiency;
+  losses = reading_out p.losses;
   voltage_min = p.voltage_min;
   voltage_max = p.voltage_max;
   current_max = p.current_max;
   power_max = p.power_max;
   is_enabled = p.is_enabled;
   is_faulted = p.is_faulted;
-  temperature = slot_out p.temperature;
+  temperature = reading_out p.temperature;
 }

@@ -22,23 +22,25 @@ pub struct CodedWritten {
     pub bytes: usize,
 }
 
-pub fn read_of(a: ReadAnswer) -> CodedRead
-    ensures { result ≡ coded_read a }
-{
-    let o = a.outcome;
-    CodedRead {
-        code: answers::number_of(o),
-        line: a.line,
-        pairs: a.pairs,
+impl From<ReadAnswer> for CodedRead {
+    ghost from_gives = { λ a coded. coded ≡ coded_read a };
+
+    fn from(a: ReadAnswer) -> CodedRead {
+        CodedRead {
+            code: answers::number_of(a.outcome),
+            line: a.line,
+            pairs: a.pairs,
+        }
     }
 }
 
-pub fn written_of(a: WriteAnswer) -> CodedWritten
-    ensures { result ≡ coded_written a }
-{
-    let o = a.outcome;
-    CodedWritten {
-        code: answers::number_of(o),
-        bytes: a.bytes,
+impl From<WriteAnswer> for CodedWritten {
+    ghost from_gives = { λ a coded. coded ≡ coded_written a };
+
+    fn from(a: WriteAnswer) -> CodedWritten {
+        CodedWritten {
+            code: answers::number_of(a.outcome),
+            bytes: a.bytes,
+        }
     }
 }

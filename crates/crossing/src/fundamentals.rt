@@ -13,14 +13,14 @@ pub struct CodedFundamental {
     pub reactive: f32,
 }
 
-pub fn fundamental_of(a: FundamentalAnswer) -> CodedFundamental
-    ensures { result ≡ coded_fundamental a }
-{
-    let o = a.outcome;
-    let power = a.power;
-    CodedFundamental {
-        code: answers::number_of(o),
-        active: power.active,
-        reactive: power.reactive,
+impl From<FundamentalAnswer> for CodedFundamental {
+    ghost from_gives = { λ a coded. coded ≡ coded_fundamental a };
+
+    fn from(a: FundamentalAnswer) -> CodedFundamental {
+        CodedFundamental {
+            code: answers::number_of(a.outcome),
+            active: a.power.active,
+            reactive: a.power.reactive,
+        }
     }
 }

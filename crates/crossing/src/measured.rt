@@ -11,12 +11,13 @@ pub struct Figure {
     pub value: f32,
 }
 
-pub fn figure_of(m: Measured) -> Figure
-    ensures { result ≡ figure_of m }
-{
-    let o = m.outcome;
-    Figure {
-        code: answers::number_of(o),
-        value: m.value,
+impl From<Measured> for Figure {
+    ghost from_gives = { λ m figure. figure ≡ figure_of m };
+
+    fn from(m: Measured) -> Figure {
+        Figure {
+            code: answers::number_of(m.outcome),
+            value: m.value,
+        }
     }
 }

@@ -12,13 +12,13 @@ pub struct CodedPower {
     pub power: Power,
 }
 
-pub fn power_of(a: PowerAnswer) -> CodedPower
-    ensures { result ≡ coded_power a }
-{
-    let o = a.outcome;
-    let power = a.power;
-    CodedPower {
-        code: answers::number_of(o),
-        power: power,
+impl From<PowerAnswer> for CodedPower {
+    ghost from_gives = { λ a coded. coded ≡ coded_power a };
+
+    fn from(a: PowerAnswer) -> CodedPower {
+        CodedPower {
+            code: answers::number_of(a.outcome),
+            power: a.power,
+        }
     }
 }

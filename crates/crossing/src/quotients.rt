@@ -13,47 +13,35 @@ pub struct CodedQuotient {
     pub ratio: f64,
 }
 
-pub fn quotient_of(a: QuotientAnswer) -> CodedQuotient
-    ensures { result ≡ coded_quotient a }
-{
-    let o = a.outcome;
-    let code = answers::number_of(o);
-    let q = a.quotient;
-    match q {
-        Quotient::Ratio(ratio) => CodedQuotient {
-            code,
-            kind: 0,
+impl From<QuotientAnswer> for CodedQuotient {
+    ghost from_gives = { λ a coded. coded ≡ coded_quotient a };
+
+    fn from(a: QuotientAnswer) -> CodedQuotient {
+        let (kind, ratio) = match a.quotient {
+            Quotient::Ratio(ratio) => (0, ratio),
+            Quotient::UnusableBin => (2, 0.0),
+        };
+        CodedQuotient {
+            code: answers::number_of(a.outcome),
+            kind,
             ratio,
-        },
-        Quotient::UnusableBin => CodedQuotient {
-            code,
-            kind: 2,
-            ratio: 0.0,
-        },
+        }
     }
 }
 
-pub fn sfdr_of(a: SfdrAnswer) -> CodedQuotient
-    ensures { result ≡ coded_sfdr a }
-{
-    let o = a.outcome;
-    let code = answers::number_of(o);
-    let q = a.quotient;
-    match q {
-        Sfdr::Ratio(x) => CodedQuotient {
-            code,
-            kind: 0,
-            ratio: std::num::f32_to_f64_with_nan(x),
-        },
-        Sfdr::NoSpur => CodedQuotient {
-            code,
-            kind: 1,
-            ratio: 0.0,
-        },
-        Sfdr::UnusableBin => CodedQuotient {
-            code,
-            kind: 2,
-            ratio: 0.0,
-        },
+impl From<SfdrAnswer> for CodedQuotient {
+    ghost from_gives = { λ a coded. coded ≡ coded_sfdr a };
+
+    fn from(a: SfdrAnswer) -> CodedQuotient {
+        let (kind, ratio) = match a.quotient {
+            Sfdr::Ratio(ratio) => (0, std::num::f32_to_f64_with_nan(ratio)),
+            Sfdr::NoSpur => (1, 0.0),
+            Sfdr::UnusableBin => (2, 0.0),
+        };
+        CodedQuotient {
+            code: answers::number_of(a.outcome),
+            kind,
+            ratio,
+        }
     }
 }

@@ -1,7 +1,6 @@
 // A reading crosses as a flag and a value.
 ghost use Rattle.std.specs.Prelude.{◌≡◌};
-ghost use Rattle.crossing.specs.PortCrossing.{reading_in, reading_out, slot_in, slot_out};
-
+ghost use Rattle.crossing.specs.PortCrossing.{reading_in, reading_out};
 
 #[repr(C)]
 #[derive(Clone, Copy)]
@@ -16,38 +15,24 @@ pub const ABSENT: TjReading = TjReading {
     value: 0.0,
 };
 
-pub fn reading_in(r: TjReading) -> Option<f32>
-    ensures { result ≡ reading_in r }
-{
-    if r.present {
-        Some(r.value)
-    } else {
-        None
+impl From<TjReading> for Option<f32> {
+    ghost from_gives = { λ r reading. reading ≡ reading_in r };
+
+    fn from(r: TjReading) -> Option<f32> {
+        if r.present { Some(r.value) } else { None }
     }
 }
 
-pub fn reading_out(r: Option<f32>) -> TjReading
-    ensures { result ≡ reading_out r }
-{
-    match r {
-        Some(value) => TjReading {
-            present: true,
-            value: value,
-        },
-        None => ABSENT,
+impl From<Option<f32>> for TjReading {
+    ghost from_gives = { λ reading r. r ≡ reading_out reading };
+
+    fn from(reading: Option<f32>) -> TjReading {
+        match reading {
+            Some(value) => TjReading {
+                present: true,
+                value,
+            },
+            None => ABSENT,
+        }
     }
-}
-
-pub fn slot_in(r: TjReading) -> Option<f32>
-    ensures { result ≡ slot_in r }
-{
-    let reading = reading_in(r);
-    Slot { reading: reading }
-}
-
-pub fn slot_out(s: Option<f32>) -> TjReading
-    ensures { result ≡ slot_out s }
-{
-    let reading = s.reading;
-    reading_out(reading)
 }

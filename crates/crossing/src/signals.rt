@@ -2,7 +2,6 @@
 ghost use Rattle.std.specs.Prelude.{◌≡◌};
 ghost use Rattle.crossing.specs.SignalCrossing.{state_in, state_out, coded_signal};
 
-use crate::ports;
 use crate::ports::TjPort;
 use figures::TimeFigures;
 use generator::Shape;
@@ -31,65 +30,54 @@ pub struct CodedSignal {
 }
 
 // The state that a flat record stands for.
-pub fn state_in(s: TjSignal) -> State
-    ensures { result ≡ state_in s }
-{
-    let wave = generator::wave_of(s.wave);
-    let flat = s.port;
-    let port = ports::port_in(flat);
-    let shape = Shape {
-        wave: wave,
-        amplitude: s.amplitude,
-        phase: s.phase,
-        frequency: s.frequency,
-        duty_cycle: s.duty_cycle,
-    };
-    let figures = s.figures;
-    let metrics = Metrics {
-        figures: figures,
-        thd: s.thd,
-        edition: s.edition,
-    };
-    State {
-        shape: shape,
-        port: port,
-        metrics: metrics,
+impl From<TjSignal> for State {
+    ghost from_gives = { λ s state. state ≡ state_in s };
+
+    fn from(s: TjSignal) -> State {
+        State {
+            shape: Shape {
+                wave: generator::wave_of(s.wave),
+                amplitude: s.amplitude,
+                phase: s.phase,
+                frequency: s.frequency,
+                duty_cycle: s.duty_cycle,
+            },
+            port: s.port.into(),
+            metrics: Metrics {
+                figures: s.figures,
+                thd: s.thd,
+                edition: s.edition,
+            },
+        }
     }
 }
 
 // A state as a flat record.
-pub fn state_out(s: State) -> TjSignal
-    ensures { result ≡ state_out s }
-{
-    let shape = s.shape;
-    let wave = shape.wave;
-    let number = generator::wave_number(wave);
-    let port = s.port;
-    let flat = ports::port_out(port);
-    let metrics = s.metrics;
-    let figures = metrics.figures;
-    TjSignal {
-        wave: number,
-        edition: metrics.edition,
-        amplitude: shape.amplitude,
-        phase: shape.phase,
-        frequency: shape.frequency,
-        duty_cycle: shape.duty_cycle,
-        port: flat,
-        figures: figures,
-        thd: metrics.thd,
+impl From<State> for TjSignal {
+    ghost from_gives = { λ s flat. flat ≡ state_out s };
+
+    fn from(s: State) -> TjSignal {
+        TjSignal {
+            wave: generator::wave_number(s.shape.wave),
+            edition: s.metrics.edition,
+            amplitude: s.shape.amplitude,
+            phase: s.shape.phase,
+            frequency: s.shape.frequency,
+            duty_cycle: s.shape.duty_cycle,
+            port: s.port.into(),
+            figures: s.metrics.figures,
+            thd: s.metrics.thd,
+        }
     }
 }
 
-pub fn coded(a: Answer) -> CodedSignal
-    ensures { result ≡ coded_signal a }
-{
-    let outcome = a.outcome;
-    let code = answers::number_of(outcome);
-    let state = a.state;
-    let flat = state_out(state);
-    CodedSignal {
-        code: code,
-        signal: flat,
+impl From<Answer> for CodedSignal {
+    ghost from_gives = { λ a coded. coded ≡ coded_signal a };
+
+    fn from(a: Answer) -> CodedSignal {
+        CodedSignal {
+            code: answers::number_of(a.outcome),
+            signal: a.state.into(),
+        }
     }
 }

@@ -12,13 +12,13 @@ pub struct CodedFigures {
     pub figures: TimeFigures,
 }
 
-pub fn figures_of(a: TimeAnswer) -> CodedFigures
-    ensures { result ≡ coded_figures a }
-{
-    let o = a.outcome;
-    let figures = a.figures;
-    CodedFigures {
-        code: answers::number_of(o),
-        figures: figures,
+impl From<TimeAnswer> for CodedFigures {
+    ghost from_gives = { λ a coded. coded ≡ coded_figures a };
+
+    fn from(a: TimeAnswer) -> CodedFigures {
+        CodedFigures {
+            code: answers::number_of(a.outcome),
+            figures: a.figures,
+        }
     }
 }

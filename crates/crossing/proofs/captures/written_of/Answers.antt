@@ -1,5 +1,0 @@
--- `crossing::captures::written_of` meets its contract. Assumes nothing.
-use Rattle.crossing.proofs.captures.written_of.Goals as goal
-
-pub returns : goal.returns
-returns c = rw c.number_of.ensures

@@ -1,5 +1,0 @@
--- `crossing::measured::figure_of` meets its contract. Assumes nothing.
-use Rattle.crossing.proofs.measured.figure_of.Goals as goal
-
-pub returns : goal.returns
-returns c = rw c.number_of.ensures

@@ -1,5 +1,0 @@
--- `crossing::times::figures_of` meets its contract. Assumes nothing.
-use Rattle.crossing.proofs.times.figures_of.Goals as goal
-
-pub returns : goal.returns
-returns c = rw c.number_of.ensures
