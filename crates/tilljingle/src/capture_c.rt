@@ -5,13 +5,13 @@ ghost use Rattle.writing.specs.Writing.{write_capture};
 ghost use Rattle.answers.specs.Left.{left, answered_as};
 ghost use Rattle.crossing.specs.CaptureCrossing.{coded_read, coded_written};
 
-use crossing::captures::{CodedRead, CodedWritten, read_of, written_of};
+use crossing::captures::{CodedRead, CodedWritten};
 
 #[unsafe(no_mangle)]
 pub extern "C" fn tj_read_capture(text: &[u8], volts: &mut [i16], amps: &mut [i16]) -> CodedRead
     ensures { left result (volts.new, amps.new) ≡ answered_as coded_read (read_capture text.now volts.old amps.old) }
 {
-    read_of(capture::read_capture(text, volts, amps))
+    capture::read_capture(text, volts, amps).into()
 }
 
 #[unsafe(no_mangle)]
@@ -23,5 +23,5 @@ pub extern "C" fn tj_write_capture(
 ) -> CodedWritten
     ensures { left result text.new ≡ answered_as coded_written (write_capture volts.now amps.now first text.old) }
 {
-    written_of(writing::write_capture(volts, amps, first, text))
+    writing::write_capture(volts, amps, first, text).into()
 }

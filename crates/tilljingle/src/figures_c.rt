@@ -4,7 +4,7 @@ ghost use Rattle.figures.specs.Figures.{answer_of};
 ghost use Rattle.generator.specs.Wave.{wave_of};
 ghost use Rattle.crossing.specs.FiguresCrossing.{coded_figures};
 
-use crossing::times::{CodedFigures, figures_of};
+use crossing::times::CodedFigures;
 use figures::TimeFigures;
 
 #[unsafe(no_mangle)]
@@ -17,6 +17,12 @@ pub extern "C" fn tj_calculate_time_figures(
 ) -> CodedFigures
     ensures { result ≡ coded_figures (answer_of (wave_of wave) amplitude frequency earlier samples.now) }
 {
-    let kind = generator::wave_of(wave);
-    figures_of(figures::calculate_time_figures(kind, amplitude, frequency, earlier, samples))
+    figures::calculate_time_figures(
+        generator::wave_of(wave),
+        amplitude,
+        frequency,
+        earlier,
+        samples,
+    )
+    .into()
 }

@@ -3,7 +3,7 @@ ghost use Rattle.std.specs.Prelude.{◌≡◌};
 ghost use Rattle.fundamental.specs.Fundamental.{fundamental_answer};
 ghost use Rattle.crossing.specs.FundamentalCrossing.{coded_fundamental};
 
-use crossing::fundamentals::{CodedFundamental, fundamental_of};
+use crossing::fundamentals::CodedFundamental;
 
 #[unsafe(no_mangle)]
 pub extern "C" fn tj_fundamental_power(
@@ -13,5 +13,5 @@ pub extern "C" fn tj_fundamental_power(
 ) -> CodedFundamental
     ensures { result ≡ coded_fundamental (fundamental_answer voltage.now current.now bin) }
 {
-    fundamental_of(fundamental::fundamental_power(voltage, current, bin))
+    fundamental::fundamental_power(voltage, current, bin).into()
 }

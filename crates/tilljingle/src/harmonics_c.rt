@@ -9,15 +9,12 @@ use crossing::readings::TjReading;
 pub extern "C" fn tj_harmonic(harmonics: &[TjReading; 16], n: u8) -> TjReading
     ensures { result ≡ harmonic_at harmonics.now n }
 {
-    let there = *harmonics;
-    harmonic_at(there, n)
+    harmonic_at(*harmonics, n)
 }
 
 #[unsafe(no_mangle)]
 pub extern "C" fn tj_set_harmonic(harmonics: &mut [TjReading; 16], n: u8, value: TjReading)
     ensures { harmonics.new ≡ with_harmonic harmonics.old n value }
 {
-    let there = *harmonics;
-    let next = with_harmonic(there, n, value);
-    *harmonics = next;
+    *harmonics = with_harmonic(*harmonics, n, value);
 }

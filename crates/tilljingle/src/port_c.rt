@@ -4,49 +4,52 @@ ghost use Rattle.port.specs.Fields.{put, places, at_voltage_harmonics, at_curren
 ghost use Rattle.port.specs.Readings.{place_of, with_place, instantaneous_power, cleared};
 ghost use Rattle.crossing.specs.PortCrossing.{reading_in, reading_out, port_in, port_out};
 
-use crossing::ports::{TjPort, port_in, port_out};
-use crossing::readings::{TjReading, reading_in, reading_out};
+use crossing::ports::TjPort;
+use crossing::readings::TjReading;
+use port::Port;
 
 #[unsafe(no_mangle)]
 pub extern "C" fn tj_instantaneous_power(port: TjPort) -> f32
     ensures { result ≡ instantaneous_power (port_in port) }
 {
-    port_in(port).instantaneous_power()
+    Port::from(port).instantaneous_power()
 }
 
 #[unsafe(no_mangle)]
 pub extern "C" fn tj_reset_power_params(port: TjPort) -> TjPort
     ensures { result ≡ port_out cleared }
 {
-    port_out(port_in(port).reset_power_params())
+    Port::from(port).reset_power_params().into()
 }
 
 #[unsafe(no_mangle)]
 pub extern "C" fn tj_voltage_harmonic(port: TjPort, n: u8) -> TjReading
     ensures { result ≡ reading_out (place_of (port_in port).voltage_harmonics n) }
 {
-    reading_out(port_in(port).voltage_harmonic(n))
+    Port::from(port).voltage_harmonic(n).into()
 }
 
 #[unsafe(no_mangle)]
 pub extern "C" fn tj_set_voltage_harmonic(port: TjPort, n: u8, value: TjReading) -> TjPort
     ensures { result ≡ port_out (put (port_in port) at_voltage_harmonics (places (with_place (port_in port).voltage_harmonics n (reading_in value)))) }
 {
-    let reading = reading_in(value);
-    port_out(port_in(port).set_voltage_harmonic(n, reading))
+    Port::from(port)
+        .set_voltage_harmonic(n, value.into())
+        .into()
 }
 
 #[unsafe(no_mangle)]
 pub extern "C" fn tj_current_harmonic(port: TjPort, n: u8) -> TjReading
     ensures { result ≡ reading_out (place_of (port_in port).current_harmonics n) }
 {
-    reading_out(port_in(port).current_harmonic(n))
+    Port::from(port).current_harmonic(n).into()
 }
 
 #[unsafe(no_mangle)]
 pub extern "C" fn tj_set_current_harmonic(port: TjPort, n: u8, value: TjReading) -> TjPort
     ensures { result ≡ port_out (put (port_in port) at_current_harmonics (places (with_place (port_in port).current_harmonics n (reading_in value)))) }
 {
-    let reading = reading_in(value);
-    port_out(port_in(port).set_current_harmonic(n, reading))
+    Port::from(port)
+        .set_current_harmonic(n, value.into())
+        .into()
 }

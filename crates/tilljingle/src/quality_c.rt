@@ -4,35 +4,35 @@ ghost use Rattle.quality.specs.Quality.{answer_thd, enob_of, snr_of, sinad_of, a
 ghost use Rattle.crossing.specs.Measured.{figure_of};
 ghost use Rattle.crossing.specs.QualityCrossing.{coded_quotient, coded_sfdr};
 
-use crossing::measured::{Figure, figure_of};
-use crossing::quotients::{CodedQuotient, quotient_of, sfdr_of};
+use crossing::measured::Figure;
+use crossing::quotients::CodedQuotient;
 
 #[unsafe(no_mangle)]
 pub extern "C" fn tj_compute_thd_from_spectrum(spectrum: &[f32], fundamental_bin: usize) -> Figure
     ensures { result ≡ figure_of (answer_thd spectrum.now fundamental_bin) }
 {
-    figure_of(quality::compute_thd_from_spectrum(spectrum, fundamental_bin))
+    quality::compute_thd_from_spectrum(spectrum, fundamental_bin).into()
 }
 
 #[unsafe(no_mangle)]
 pub extern "C" fn tj_snr_quotient(spectrum: &[f32], fundamental_bin: usize) -> CodedQuotient
     ensures { result ≡ coded_quotient (answer_quotient snr_of spectrum.now fundamental_bin) }
 {
-    quotient_of(quality::snr_quotient(spectrum, fundamental_bin))
+    quality::snr_quotient(spectrum, fundamental_bin).into()
 }
 
 #[unsafe(no_mangle)]
 pub extern "C" fn tj_sinad_quotient(spectrum: &[f32], fundamental_bin: usize) -> CodedQuotient
     ensures { result ≡ coded_quotient (answer_quotient sinad_of spectrum.now fundamental_bin) }
 {
-    quotient_of(quality::sinad_quotient(spectrum, fundamental_bin))
+    quality::sinad_quotient(spectrum, fundamental_bin).into()
 }
 
 #[unsafe(no_mangle)]
 pub extern "C" fn tj_sfdr_quotient(spectrum: &[f32], fundamental_bin: usize) -> CodedQuotient
     ensures { result ≡ coded_sfdr (answer_sfdr spectrum.now fundamental_bin) }
 {
-    sfdr_of(quality::sfdr_quotient(spectrum, fundamental_bin))
+    quality::sfdr_quotient(spectrum, fundamental_bin).into()
 }
 
 #[unsafe(no_mangle)]

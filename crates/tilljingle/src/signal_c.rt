@@ -7,9 +7,8 @@ ghost use Rattle.signal.specs.Editions.{new_by, new_port_by, phase_by, duty_by};
 ghost use Rattle.crossing.specs.PortCrossing.{reading_in};
 ghost use Rattle.crossing.specs.SignalCrossing.{state_in, coded_signal};
 
-use crossing::readings;
 use crossing::readings::TjReading;
-use crossing::signals::{CodedSignal, TjSignal, coded, state_in};
+use crossing::signals::{CodedSignal, TjSignal};
 
 #[unsafe(no_mangle)]
 pub extern "C" fn tj_signal_new(
@@ -21,8 +20,14 @@ pub extern "C" fn tj_signal_new(
 ) -> CodedSignal
     ensures { left result samples.new ≡ answered_as coded_signal (new_by (wave_of wave) amplitude frequency edition samples.old) }
 {
-    let kind = generator::wave_of(wave);
-    coded(signal::new(kind, amplitude, frequency, edition, samples))
+    signal::new(
+        generator::wave_of(wave),
+        amplitude,
+        frequency,
+        edition,
+        samples,
+    )
+    .into()
 }
 
 #[unsafe(no_mangle)]
@@ -35,8 +40,7 @@ pub extern "C" fn tj_signal_new_power_port(
 ) -> CodedSignal
     ensures { left result samples.new ≡ answered_as coded_signal (new_port_by voltage current (reading_in frequency) edition samples.old) }
 {
-    let reading = readings::reading_in(frequency);
-    coded(signal::new_power_port(voltage, current, reading, edition, samples))
+    signal::new_power_port(voltage, current, frequency.into(), edition, samples).into()
 }
 
 #[unsafe(no_mangle)]
@@ -47,8 +51,7 @@ pub extern "C" fn tj_signal_set_phase(
 ) -> CodedSignal
     ensures { left result samples.new ≡ answered_as coded_signal (phase_by (state_in signal) phase samples.old) }
 {
-    let state = state_in(signal);
-    coded(signal::set_phase(state, phase, samples))
+    signal::set_phase(signal.into(), phase, samples).into()
 }
 
 #[unsafe(no_mangle)]
@@ -59,14 +62,12 @@ pub extern "C" fn tj_signal_set_duty_cycle(
 ) -> CodedSignal
     ensures { left result samples.new ≡ answered_as coded_signal (duty_by (state_in signal) duty_cycle samples.old) }
 {
-    let state = state_in(signal);
-    coded(signal::set_duty_cycle(state, duty_cycle, samples))
+    signal::set_duty_cycle(signal.into(), duty_cycle, samples).into()
 }
 
 #[unsafe(no_mangle)]
 pub extern "C" fn tj_signal_reset_waveform(signal: TjSignal, samples: &mut [f32]) -> CodedSignal
     ensures { left result samples.new ≡ answered_as coded_signal (reset_of (state_in signal) samples.old) }
 {
-    let state = state_in(signal);
-    coded(signal::reset_waveform(state, samples))
+    signal::reset_waveform(signal.into(), samples).into()
 }

@@ -1,5 +1,0 @@
--- `tilljingle::port_c::tj_set_current_harmonic` meets its contract: the port's own, crossed. Assumes nothing.
-use Rattle.tilljingle.proofs.port_c.tj_set_current_harmonic.Goals as goal
-
-pub returns : goal.returns
-returns c = rw (c.port_out.ensures, c.set_current_harmonic.ensures, c.port_in.ensures, c.reading_in-reading.ensures)
