@@ -1,9 +1,6 @@
 -- A port that crosses the boundary and comes back is the port it was. Assumes nothing.
-use Rattle.std.proofs.Common.{◌≡◌, ℕ, List, [], ◌∷◌, map, length, get_or, refl, ap, arith, Option, Some, None, Float}
-use Rattle.laws.specs.Filled.{filled}
+use Rattle.std.proofs.Common.{◌≡◌, List, [], ◌∷◌, map, refl, Option, Some, None, Float}
 use Rattle.port.specs.declared.Port.{Port}
-use Rattle.crossing.specs.declared.readings.TjReading.{TjReading}
-use Rattle.crossing.specs.declared.ports.TjPort.{TjPort}
 use Rattle.crossing.specs.PortCrossing.{reading_in, reading_out, port_in, port_out}
 
 reading_back : (r : Option Float) → reading_in (reading_out r) ≡ r

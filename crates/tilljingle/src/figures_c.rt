@@ -17,12 +17,6 @@ pub extern "C" fn tj_calculate_time_figures(
 ) -> CodedFigures
     ensures { result ≡ coded_figures (answer_of (wave_of wave) amplitude frequency earlier samples.now) }
 {
-    figures::calculate_time_figures(
-        generator::wave_of(wave),
-        amplitude,
-        frequency,
-        earlier,
-        samples,
-    )
-    .into()
+    let kind = generator::wave_of(wave);
+    figures::calculate_time_figures(kind, amplitude, frequency, earlier, samples).into()
 }

@@ -16,12 +16,8 @@ pub extern "C" fn tj_generate_samples(
 ) -> u8
     ensures { left result samples.new ≡ answered_as number_of (generated (shape_of (wave_of wave) amplitude phase frequency duty_cycle) samples.old) }
 {
+    let kind = generator::wave_of(wave);
     answers::number_of(generator::generate_samples(
-        generator::wave_of(wave),
-        amplitude,
-        phase,
-        frequency,
-        duty_cycle,
-        samples,
+        kind, amplitude, phase, frequency, duty_cycle, samples,
     ))
 }

@@ -20,14 +20,8 @@ pub extern "C" fn tj_signal_new(
 ) -> CodedSignal
     ensures { left result samples.new ≡ answered_as coded_signal (new_by (wave_of wave) amplitude frequency edition samples.old) }
 {
-    signal::new(
-        generator::wave_of(wave),
-        amplitude,
-        frequency,
-        edition,
-        samples,
-    )
-    .into()
+    let kind = generator::wave_of(wave);
+    signal::new(kind, amplitude, frequency, edition, samples).into()
 }
 
 #[unsafe(no_mangle)]

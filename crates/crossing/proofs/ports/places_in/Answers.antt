@@ -1,6 +1,5 @@
-use Rattle.std.proofs.Common.{◌≡◌, length, arith, false, None}
+use Rattle.std.proofs.Common.{◌≡◌, length, arith, false}
 use lib.Ieee.{nan}
-use Rattle.crossing.specs.declared.readings.TjReading.{TjReading}
 use Rattle.crossing.specs.PortCrossing.{reading_in}
 use Rattle.crossing.proofs.Maps.{mapped}
 use Rattle.crossing.proofs.ports.places_in.Goals as goal

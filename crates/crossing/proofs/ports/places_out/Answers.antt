@@ -1,6 +1,4 @@
-use Rattle.std.proofs.Common.{◌≡◌, length, arith, None, Option, Float}
-use lib.Ieee.{nan}
-use Rattle.crossing.specs.declared.readings.TjReading.{TjReading}
+use Rattle.std.proofs.Common.{◌≡◌, length, arith, None}
 use Rattle.crossing.specs.PortCrossing.{reading_out}
 use Rattle.crossing.proofs.Maps.{mapped}
 use Rattle.crossing.proofs.ports.places_out.Goals as goal
