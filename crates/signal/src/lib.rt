@@ -61,15 +61,12 @@ pub fn new_power_port(
     ensures { left result samples.new ≡ new_port_by voltage current frequency edition samples.old }
 {
     let made = new(Wave::DC, voltage, 0.0, edition, samples);
-    let outcome = made.outcome;
-    if answers::number_of(outcome) != 0 {
+    if answers::number_of(made.outcome) != 0 {
         return made;
     }
-    let state = made.state;
-    let next = parts::as_port(state, voltage, current, frequency);
     Answer {
-        outcome: outcome,
-        state: next,
+        outcome: made.outcome,
+        state: parts::as_port(made.state, voltage, current, frequency),
     }
 }
 
@@ -95,12 +92,9 @@ pub fn reset_waveform(state: State, samples: &mut [f32]) -> Answer
 {
     let outcome = spectrum::parts::judged(samples.len(), false);
     if answers::number_of(outcome) != 0 {
-        return Answer {
-            outcome: outcome,
-            state: state,
-        };
+        return Answer { outcome, state };
     }
-    parts::clear(samples);
+    samples.fill(0.0);
     Answer {
         outcome: Outcome::Done,
         state: parts::silenced(state),

@@ -21,7 +21,7 @@ fn unmeasured(edition: u8) -> Metrics
     Metrics {
         figures: ZERO_FIGURES,
         thd: 0.0,
-        edition: edition,
+        edition,
     }
 }
 
@@ -31,16 +31,15 @@ pub fn zero_state() -> State
 {
     let mut port = port::cleared_port();
     port.is_enabled = false;
-    let shape = Shape {
-        wave: Wave::DC,
-        amplitude: 0.0,
-        phase: 0.0,
-        frequency: 0.0,
-        duty_cycle: 0.0,
-    };
     State {
-        shape: shape,
-        port: port,
+        shape: Shape {
+            wave: Wave::DC,
+            amplitude: 0.0,
+            phase: 0.0,
+            frequency: 0.0,
+            duty_cycle: 0.0,
+        },
+        port,
         metrics: unmeasured(0),
     }
 }
@@ -51,43 +50,38 @@ fn frequency_of(wave: Wave, frequency: f32) -> Option<f32>
 {
     match wave {
         Wave::DC => None,
-        Wave::PWM => Some(frequency),
-        Wave::Triangular => Some(frequency),
-        Wave::Sawtooth => Some(frequency),
+        _ => Some(frequency),
     }
 }
 
 // The state before anything is generated.
+#[tactic(auto, unfolding(crate::specs::State::fresh))]
 pub fn fresh(wave: Wave, amplitude: f32, frequency: f32, edition: u8) -> State
     ensures { result ≡ S.fresh wave amplitude frequency edition }
 {
-    let reading = frequency_of(wave, frequency);
-    let port = port::cleared_port().set_frequency(reading);
-    let shape = Shape {
-        wave: wave,
-        amplitude: amplitude,
-        phase: 0.0,
-        frequency: frequency,
-        duty_cycle: 0.5,
-    };
     State {
-        shape: shape,
-        port: port,
+        shape: Shape {
+            wave,
+            amplitude,
+            phase: 0.0,
+            frequency,
+            duty_cycle: 0.5,
+        },
+        port: port::cleared_port().set_frequency(frequency_of(wave, frequency)),
         metrics: unmeasured(edition),
     }
 }
 
-pub fn with_phase(state: State, phase: f32) -> State
+#[tactic(auto, unfolding(crate::specs::State::with_phase))]
+pub fn with_phase(mut state: State, phase: f32) -> State
     ensures { result ≡ S.with_phase state phase }
 {
-    let mut shape = state.shape;
-    shape.phase = phase;
-    let mut next = state;
-    next.shape = shape;
-    next
+    state.shape.phase = phase;
+    state
 }
 
 // A NaN is not above 0, so it becomes 0.
+#[tactic(auto, unfolding(crate::specs::State::clamped))]
 fn clamped(d: f32) -> f32
     ensures { result ≡ S.clamped d }
 {
@@ -100,29 +94,27 @@ fn clamped(d: f32) -> f32
     0.0
 }
 
-pub fn with_duty(state: State, duty_cycle: f32) -> State
+#[tactic(auto, unfolding(crate::specs::State::with_duty))]
+pub fn with_duty(mut state: State, duty_cycle: f32) -> State
     ensures { result ≡ S.with_duty state duty_cycle }
 {
-    let mut shape = state.shape;
-    shape.duty_cycle = clamped(duty_cycle);
-    let mut next = state;
-    next.shape = shape;
-    next
+    state.shape.duty_cycle = clamped(duty_cycle);
+    state
 }
 
 // The mean of a DC signal, the RMS of any other.
+#[tactic(auto, unfolding(crate::specs::State::voltage_of))]
 fn voltage_of(wave: Wave, figures: TimeFigures) -> f32
     ensures { result ≡ S.voltage_of wave figures }
 {
     match wave {
         Wave::DC => figures.average,
-        Wave::PWM => figures.dc_rms,
-        Wave::Triangular => figures.dc_rms,
-        Wave::Sawtooth => figures.dc_rms,
+        _ => figures.dc_rms,
     }
 }
 
 // The readings that follow what is measured.
+#[tactic(auto, unfolding(crate::specs::State::levelled))]
 fn levelled(port: Port, voltage: f32, crest: f32, thd: f32) -> Port
     ensures { result ≡ S.levelled port voltage crest thd }
 {
@@ -132,35 +124,35 @@ fn levelled(port: Port, voltage: f32, crest: f32, thd: f32) -> Port
 }
 
 // The state with what is measured of the samples, THD of orders up to `top`.
+#[tactic(auto, unfolding(crate::specs::State::with_measured))]
 fn measure(top: usize, state: State, samples: &[f32]) -> State
     requires samples_value { on_grid (length samples.now) ≡ true }
     requires le_top { (1 ≤ top) × (top ≤ 65536) }
     ensures { result ≡ S.with_measured top state samples.now }
 {
-    let shape = state.shape;
-    let wave = shape.wave;
-    let before = state.metrics;
-    let earlier = before.figures;
+    let State {
+        shape,
+        port,
+        metrics: before,
+    } = state;
     let answer = figures::calculate_time_figures(
-        wave,
+        shape.wave,
         shape.amplitude,
         shape.frequency,
-        earlier,
+        before.figures,
         samples,
     );
     let figures = answer.figures;
+    let voltage = voltage_of(shape.wave, figures);
     let thd = distortion::parts::thd(samples, shape.frequency, top, before.thd);
-    let port = state.port;
-    let next = levelled(port, voltage_of(wave, figures), figures.crest_factor, thd);
-    let metrics = Metrics {
-        figures: figures,
-        thd: thd,
-        edition: before.edition,
-    };
     State {
-        shape: shape,
-        port: next,
-        metrics: metrics,
+        shape,
+        port: levelled(port, voltage, figures.crest_factor, thd),
+        metrics: Metrics {
+            figures,
+            thd,
+            edition: before.edition,
+        },
     }
 }
 
@@ -171,9 +163,8 @@ fn make(top: usize, state: State, samples: &mut [f32]) -> State
     ensures { left (answer Outcome.Done result) samples.new ≡ made top state samples.old }
 {
     let shape = state.shape;
-    let wave = shape.wave;
     generator::generate_samples(
-        wave,
+        shape.wave,
         shape.amplitude,
         shape.phase,
         shape.frequency,
@@ -191,7 +182,7 @@ fn remake(top: usize, earlier: State, next: State, samples: &mut [f32]) -> Answe
     let outcome = spectrum::parts::judged(samples.len(), false);
     if answers::number_of(outcome) != 0 {
         return Answer {
-            outcome: outcome,
+            outcome,
             state: earlier,
         };
     }
@@ -216,41 +207,27 @@ pub fn remake_by(edition: u8, before: State, next: State, samples: &mut [f32]) -
     remake(top, before, next, samples)
 }
 
-// All samples zero.
-pub fn clear(samples: &mut [f32])
-    ensures { samples.new ≡ filled (λ (j : ℕ). zero32) (length samples.old) samples.old }
-{
-    let n = samples.len();
-    let mut i: usize = 0;
-    while i < n {
-        samples[i] = 0.0;
-        i += 1;
-    }
-}
-
 // The state of silent samples.
 #[tactic(auto, unfolding(crate::specs::State::silenced))]
 pub fn silenced(state: State) -> State
     ensures { result ≡ S.silenced state }
 {
-    let port = state.port;
-    let next = levelled(port, 0.0, 0.0, 0.0);
-    let shape = state.shape;
     State {
-        shape: shape,
-        port: next,
+        shape: state.shape,
+        port: levelled(state.port, 0.0, 0.0, 0.0),
         metrics: unmeasured(state.metrics.edition),
     }
 }
 
 // The readings of a port of this voltage and current.
-pub fn as_port(state: State, voltage: f32, current: f32, frequency: Option<f32>) -> State
+#[tactic(auto, unfolding(crate::specs::State::as_port))]
+pub fn as_port(mut state: State, voltage: f32, current: f32, frequency: Option<f32>) -> State
     ensures { result ≡ S.as_port state voltage current frequency }
 {
     let power = voltage * current;
     let apparent = number::abs32(power);
-    let port = state.port;
-    let next = port
+    state.port = state
+        .port
         .set_voltage(voltage)
         .set_current(current)
         .set_frequency(frequency)
@@ -259,7 +236,5 @@ pub fn as_port(state: State, voltage: f32, current: f32, frequency: Option<f32>)
         .set_apparent_power(Some(apparent))
         .set_power_factor(Some(1.0))
         .set_displacement_pf(Some(1.0));
-    let mut out = state;
-    out.port = next;
-    out
+    state
 }

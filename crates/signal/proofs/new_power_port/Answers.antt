@@ -14,4 +14,4 @@ pub returns : goal.returns
 returns c =
     let args = c.args in
     port_done _ _ _ (new_by DC args.voltage zero32 args.edition args.samples.now) _ c.new-made.result _ c.number_of.ensures c.new-made.ensures _
-    c.if-number_of-ne0.false c.as_port-next.ensures
+    c.if-number_of-ne0.false c.as_port.ensures
