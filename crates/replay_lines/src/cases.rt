@@ -1,4 +1,4 @@
-// Cases over capture lines, their codes and the report: 01's item 11, and the power of codes. None has a slice of samples.
+// Cases over capture lines, their codes, the report and the power of codes. None has a slice of samples.
 use crate::{of_capture, of_codes, of_limits, of_report};
 use replaying::said::Said;
 use replaying::{read, said};
@@ -9,8 +9,8 @@ fn call(line: &[u8]) -> Said {
         2 => of_capture::write_case(line),
         3 => of_report::call(line),
         4 => of_codes::call(line),
-        5 => of_limits::call(line, true),
-        6 => of_limits::call(line, false),
+        5 => of_limits::read_case(line),
+        6 => of_limits::write_case(line),
         7 => of_limits::codes_case(line),
         _ => said::nothing(),
     }

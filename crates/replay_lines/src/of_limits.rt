@@ -1,112 +1,91 @@
 // The limit of 65,536: codes and captures that are too long for a line, and are made here. Voltage codes are 7 and current codes 8, first numbers 0.
-use crate::{of_capture, of_codes};
+use crate::of_codes;
+use answers::LONGEST;
+use replaying::lists::{MOST, first, first_mut};
 use replaying::read::behind;
 use replaying::said::Said;
 use replaying::{packed, read, said};
+
+// The bytes of a capture of LONGEST pairs, and of one that has one pair more, in a line of its own.
+const FULL: usize = 561152;
+
+const TOO_LONG: usize = FULL + 17;
 
 // ---- places afterwards
 
 // Whether the byte at the place that word i says is that of word i + 1.
 fn same_byte(line: &[u8], i: usize, text: &[u8]) -> bool {
-    let k = read::size(line, i);
-    if text.len() <= k {
-        return false;
-    }
-    text[k] == read::byte(line, behind(i, 1))
+    text.get(read::size(line, i)).copied() == Some(read::byte(line, behind(i, 1)))
 }
 
-// The same of a voltage or a current code.
-fn same_code(line: &[u8], i: usize, of_voltage: bool, codes: &[i16]) -> bool {
+// The same of a voltage and a current code.
+fn same_pair(line: &[u8], i: usize, volts: &[i16], amps: &[i16]) -> bool {
     let k = read::size(line, i);
-    if codes.len() <= k {
-        return false;
-    }
-    codes[k] == packed::code_at(line, behind(i, 1), of_voltage)
-}
-
-fn same_three(line: &[u8], i: usize, of_voltage: bool, codes: &[i16]) -> bool {
-    same_code(line, i, of_voltage, codes)
-        & same_code(line, behind(i, 2), of_voltage, codes)
-        & same_code(line, behind(i, 4), of_voltage, codes)
+    let (volt, amp) = packed::pair_at(line, behind(i, 1));
+    volts.get(k).copied() == Some(volt) && amps.get(k).copied() == Some(amp)
 }
 
 // ---- reading
 
-// A capture of 65,536 pairs takes 561,152 bytes.
-fn put_lines(volts: &[i16], amps: &[i16], text: &mut [u8]) {
-    of_capture::write_part(volts, 65536, amps, 65536, 0, text, 561152);
-}
-
-// One pair more stands behind them, in a line of its own.
-fn put_one_more(text: &mut [u8], from: usize) {
-    let n = text.len();
-    if n < from {
-        return;
-    }
-    writing::write_capture(&[7i16; 1], &[8i16; 1], 4096, &mut text[from..n]);
-}
-
 fn put_text(text: &mut [u8]) {
-    put_lines(&[7i16; 65536], &[8i16; 65536], text);
-    put_one_more(text, 561152);
+    let full = FULL.min(text.len());
+    let (full, one_more) = text.split_at_mut(full);
+    writing::write_capture(&[7; LONGEST], &[8; LONGEST], 0, full);
+    writing::write_capture(&[7; 1], &[8; 1], 4096, one_more);
 }
 
-fn read_long(line: &[u8], text: &[u8], volts: &mut [i16], amps: &mut [i16]) -> Said {
-    let n = read::size(line, 4);
-    let nv = read::size(line, 5);
-    let na = read::size(line, 6);
-    let r = of_capture::read_part(text, n, volts, nv, amps, na);
-    let outcome = r.outcome;
-    let right = (r.line == read::size(line, 7))
-        & (r.pairs == read::size(line, 8))
-        & same_three(line, 9, true, volts)
-        & same_three(line, 9, false, amps);
-    said::where_right(right, outcome)
+fn read_into(line: &[u8], text: &[u8], volts: &mut [i16], amps: &mut [i16]) -> Said {
+    let r = capture::read_capture(
+        first(text, read::size(line, 4)),
+        first_mut(volts, read::size(line, 5)),
+        first_mut(amps, read::size(line, 6)),
+    );
+    let right = r.line == read::size(line, 7)
+        && r.pairs == read::size(line, 8)
+        && [9, 11, 13].iter().all(|i| same_pair(line, *i, volts, amps));
+    said::where_right(right, r.outcome)
 }
 
-// Before, 5 and 6 stand in the rooms.
-fn read_codes(line: &[u8], text: &[u8]) -> Said {
-    read_long(line, text, &mut [5i16; 65537], &mut [6i16; 65537])
+// The length of the text, the rooms, the line and the pairs answered, three places and what stands there afterwards. Before, 5 and 6 stand in the rooms.
+fn read_long(line: &[u8], text: &mut [u8]) -> Said {
+    put_text(text);
+    read_into(line, text, &mut [5; MOST], &mut [6; MOST])
 }
 
 // ---- writing
 
+// The counts of codes, the room, the bytes answered, three places and what stands there afterwards.
 fn write_long(line: &[u8], text: &mut [u8]) -> Said {
-    let nv = read::size(line, 4);
-    let na = read::size(line, 5);
-    let n = read::size(line, 6);
-    let r = of_capture::write_part(&[7i16; 65537], nv, &[8i16; 65537], na, 0, text, n);
-    let outcome = r.outcome;
-    let right = (r.bytes == read::size(line, 7))
-        & same_byte(line, 8, text)
-        & same_byte(line, 10, text)
-        & same_byte(line, 12, text);
-    said::where_right(right, outcome)
+    let r = writing::write_capture(
+        first(&[7; MOST], read::size(line, 4)),
+        first(&[8; MOST], read::size(line, 5)),
+        0,
+        first_mut(text, read::size(line, 6)),
+    );
+    let right = r.bytes == read::size(line, 7)
+        && [8, 10, 12].iter().all(|i| same_byte(line, *i, text));
+    said::where_right(right, r.outcome)
 }
 
-// ---- the case
+// ---- the cases
 
-fn on_text(line: &[u8], reads: bool, text: &mut [u8]) -> Said {
-    if !reads {
-        return write_long(line, text);
-    }
-    put_text(text);
-    read_codes(line, text)
+// Before, a full stop stands in each place of the text.
+fn on_text<C: Fn(&[u8], &mut [u8]) -> Said>(line: &[u8], case: C) -> Said
+    requires { C.IsAlwaysCallable case }
+{
+    case(line, &mut [b'.'; TOO_LONG])
 }
 
-// Reading: the length of the text, the rooms, the line and the pairs answered, three places and what stands there afterwards. Writing: the counts of codes,
-// the room, the bytes answered, three places and what stands there afterwards. Before, a full stop stands in each place of the text.
-pub fn call(line: &[u8], reads: bool) -> Said {
-    on_text(line, reads, &mut [46u8; 561169])
+pub fn read_case(line: &[u8]) -> Said {
+    on_text(line, read_long)
+}
+
+pub fn write_case(line: &[u8]) -> Said {
+    on_text(line, write_long)
 }
 
 // ---- the power of codes
 
 pub fn codes_case(line: &[u8]) -> Said {
-    of_codes::power(
-        &[7i16; 65537],
-        read::size(line, 4),
-        &[8i16; 65537],
-        read::size(line, 5),
-    )
+    of_codes::power(line, &[7; MOST], &[8; MOST])
 }

@@ -1,6 +1,6 @@
-// Cases over time figures and ports: 01's items 5 and 9.
+// Cases over time figures and ports.
 use crate::{of_figures, of_port};
-use replaying::lists::{MOST, Places, ROOM};
+use replaying::lists::{List, MOST, ROOM};
 use replaying::said::Said;
 use replaying::{lists, read, said};
 
@@ -14,20 +14,18 @@ fn call(line: &[u8], a: &[f32]) -> Said {
 }
 
 // The call on the first places of this, with the line's slice there.
-fn on(line: &[u8], at: Places, a: &mut [f32]) -> Said {
-    lists::fill(line, at.a, at.na, a);
-    let na = read::least(at.na, a.len());
-    let from = 0usize;
-    call(line, &a[from..na])
+fn on(line: &[u8], slice: List, a: &mut [f32]) -> Said {
+    slice.fill(line, a);
+    call(line, lists::first(a, slice.places))
 }
 
 // One place more than a slice may have, where that is what a case is about.
 fn answered(line: &[u8]) -> Said {
     let at = lists::placed(line);
-    if lists::is_long(at) {
-        return on(line, at, &mut [0.0f32; MOST]);
+    if at.is_long() {
+        return on(line, at.a, &mut [0.0; MOST]);
     }
-    on(line, at, &mut [0.0f32; ROOM])
+    on(line, at.a, &mut [0.0; ROOM])
 }
 
 // Whether the library answers this line as the oracle did.

@@ -39,7 +39,5 @@ pub fn call(line: &[u8], a: &[f32]) -> Said {
         record(line),
         a,
     );
-    let outcome = r.outcome;
-    let figures = r.figures;
-    records::counted(line, 28, outcome, figures, records::figures(figures))
+    records::counted(line, 28, r.outcome, r.figures, &records::figures(r.figures))
 }

@@ -1,6 +1,6 @@
 // Port readings: from a cleared port six settings, each a number and four words for its arguments, and then one reading.
+use answers::Outcome;
 use port::{Port, Reading};
-use replaying::lists::ROOM;
 use replaying::read::behind;
 use replaying::records::reading_at;
 use replaying::said::Said;
@@ -10,28 +10,38 @@ fn flag_at(line: &[u8], i: usize) -> bool {
     read::word(line, i) != 0
 }
 
-// ---- the settings, a few to a function
+// ---- the settings
 
-// The setting at word i: of a number, or of one of the others.
+// The setting at word i.
 fn set(line: &[u8], i: usize, port: Port) -> Port {
     let at = behind(i, 1);
-    let which = read::word(line, i);
-    match which {
-        0 => port,
+    let r = reading_at(line, at);
+    let n = read::byte(line, behind(i, 3));
+    match read::word(line, i) {
         1 => port.set_voltage(read::float(line, at)),
         2 => port.set_current(read::float(line, at)),
+        3 => port.set_frequency(r),
+        4 => port.set_phase_angle(r),
         5 => port.set_active_power(read::float(line, at)),
+        6 => port.set_reactive_power(r),
+        7 => port.set_apparent_power(r),
+        8 => port.set_power_factor(r),
+        9 => port.set_displacement_pf(r),
         10 => port.set_energy_imported(read::double(line, at)),
         11 => port.set_energy_exported(read::double(line, at)),
+        12 => port.set_voltage_thd(r),
+        13 => port.set_current_thd(r),
+        14 => port.set_voltage_crest_factor(r),
+        15 => port.set_current_crest_factor(r),
+        16 => port.set_voltage_harmonic(n, r),
+        17 => port.set_current_harmonic(n, r),
+        18 => port.set_efficiency(r),
+        19 => port.set_losses(r),
         20 => set_limits(line, at, port),
         21 => port.set_state(flag_at(line, at), flag_at(line, behind(i, 2))),
+        22 => port.set_temperature(r),
         23 => port.reset_power_params(),
-        _ => set_power(
-            which,
-            reading_at(line, at),
-            read::byte(line, behind(i, 3)),
-            port,
-        ),
+        _ => port,
     }
 }
 
@@ -44,43 +54,10 @@ fn set_limits(line: &[u8], i: usize, port: Port) -> Port {
     )
 }
 
-fn set_power(which: u32, r: Reading, n: u8, port: Port) -> Port {
-    match which {
-        3 => port.set_frequency(r),
-        4 => port.set_phase_angle(r),
-        6 => port.set_reactive_power(r),
-        7 => port.set_apparent_power(r),
-        8 => port.set_power_factor(r),
-        _ => set_shape(which, r, n, port),
-    }
-}
-
-fn set_shape(which: u32, r: Reading, n: u8, port: Port) -> Port {
-    match which {
-        9 => port.set_displacement_pf(r),
-        12 => port.set_voltage_thd(r),
-        13 => port.set_current_thd(r),
-        14 => port.set_voltage_crest_factor(r),
-        15 => port.set_current_crest_factor(r),
-        _ => set_harmonic(which, r, n, port),
-    }
-}
-
-fn set_harmonic(which: u32, r: Reading, n: u8, port: Port) -> Port {
-    match which {
-        16 => port.set_voltage_harmonic(n, r),
-        17 => port.set_current_harmonic(n, r),
-        18 => port.set_efficiency(r),
-        19 => port.set_losses(r),
-        22 => port.set_temperature(r),
-        _ => port,
-    }
-}
-
-// ---- the readings, a few to a function
+// ---- the readings
 
 fn flag(b: bool) -> Said {
-    said::float(if b { 1.0 } else { 0.0 })
+    said::float(f32::from(b))
 }
 
 // A reading as two floats: 1 and the number, or 0 and 0.
@@ -92,14 +69,7 @@ fn reading(r: Reading) -> Said {
 }
 
 fn present(x: f32) -> Said {
-    let mut floats = [0.0f32; ROOM];
-    floats[0] = 1.0;
-    floats[1] = x;
-    Said {
-        code: 0,
-        wide: 0.0,
-        floats,
-    }
+    said::floats(Outcome::Done, &[1.0, x])
 }
 
 fn get(port: Port, which: u32, n: u8) -> Said {
@@ -109,24 +79,18 @@ fn get(port: Port, which: u32, n: u8) -> Said {
         5 => said::float(port.active_power()),
         10 => said::double(port.energy_imported()),
         11 => said::double(port.energy_exported()),
-        27 => said::float(port.instantaneous_power()),
-        _ => get_limit(port, which, n),
-    }
-}
-
-fn get_limit(port: Port, which: u32, n: u8) -> Said {
-    match which {
         20 => said::float(port.voltage_min()),
+        21 => flag(port.is_enabled()),
         23 => said::float(port.voltage_max()),
         24 => said::float(port.current_max()),
         25 => said::float(port.power_max()),
-        21 => flag(port.is_enabled()),
         26 => flag(port.is_faulted()),
-        _ => reading(get_power(port, which, n)),
+        27 => said::float(port.instantaneous_power()),
+        _ => reading(get_reading(port, which, n)),
     }
 }
 
-fn get_power(port: Port, which: u32, n: u8) -> Reading {
+fn get_reading(port: Port, which: u32, n: u8) -> Reading {
     match which {
         3 => port.frequency(),
         4 => port.phase_angle(),
@@ -136,12 +100,6 @@ fn get_power(port: Port, which: u32, n: u8) -> Reading {
         9 => port.displacement_pf(),
         12 => port.voltage_thd(),
         13 => port.current_thd(),
-        _ => get_shape(port, which, n),
-    }
-}
-
-fn get_shape(port: Port, which: u32, n: u8) -> Reading {
-    match which {
         14 => port.voltage_crest_factor(),
         15 => port.current_crest_factor(),
         16 => port.voltage_harmonic(n),
@@ -155,13 +113,7 @@ fn get_shape(port: Port, which: u32, n: u8) -> Reading {
 
 // ---- the case
 
-fn set_three(line: &[u8], i: usize, port: Port) -> Port {
-    let port = set(line, i, port);
-    let port = set(line, behind(i, 5), port);
-    set(line, behind(i, 10), port)
-}
-
 pub fn call(line: &[u8], which: u32) -> Said {
-    let port = set_three(line, 5, port::cleared_port());
-    get(set_three(line, 20, port), which, read::byte(line, 4))
+    let port = (0..6).fold(port::cleared_port(), |port, k| set(line, 5 + 5 * k, port));
+    get(port, which, read::byte(line, 4))
 }

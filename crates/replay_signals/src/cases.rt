@@ -1,4 +1,4 @@
-// Cases over signals: by value, 01's item 10, and held, our number 12.
+// Cases over signals, by value and held.
 use crate::{of_held, of_signal};
 use replaying::lists::{MOST, Places, ROOM};
 use replaying::said::Said;
@@ -14,25 +14,18 @@ fn call(line: &[u8], out: &mut [f32]) -> Said {
     }
 }
 
-// The call on the first places of this.
-fn on_part(line: &[u8], at: Places, out: &mut [f32]) -> Said {
-    let n = read::least(at.n, out.len());
-    let from = 0usize;
-    call(line, &mut out[from..n])
-}
-
 // Whether the library answers as the oracle did, with the line's slice in this.
 fn on(line: &[u8], at: Places, out: &mut [f32]) -> bool {
-    lists::fill(line, at.out, at.n, out);
-    let said = on_part(line, at, out);
-    said::same(line, at.said, said, at.n, out)
+    at.out.fill(line, out);
+    let said = call(line, lists::first_mut(out, at.out.places));
+    said::same(line, at, said, out)
 }
 
 // One place more than a slice may have, where that is what a case is about.
 pub fn agrees(line: &[u8]) -> bool {
     let at = lists::placed(line);
-    if lists::is_long(at) {
-        return on(line, at, &mut [0.0f32; MOST]);
+    if at.is_long() {
+        return on(line, at, &mut [0.0; MOST]);
     }
-    on(line, at, &mut [0.0f32; ROOM])
+    on(line, at, &mut [0.0; ROOM])
 }

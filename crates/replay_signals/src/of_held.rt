@@ -38,10 +38,14 @@ fn measured(line: &[u8], out: &mut [f32]) -> Said {
         read::float(line, 8),
         out,
     );
-    let outcome = answer.outcome;
     let metrics = answer.metrics;
-    let figures = metrics.figures;
-    records::counted(line, 9, outcome, figures, of_signal::metrics(metrics))
+    records::counted(
+        line,
+        9,
+        answer.outcome,
+        metrics.figures,
+        &of_signal::metrics(metrics),
+    )
 }
 
 fn powered(line: &[u8], out: &mut [f32]) -> Said {

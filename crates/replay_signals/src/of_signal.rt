@@ -41,31 +41,28 @@ fn made(line: &[u8], which: u32, out: &mut [f32]) -> Answer {
 fn with_edition(line: &[u8], made: Answer) -> Answer {
     let mut a = made;
     if read::word(line, 9) < 256 {
-        let mut state = a.state;
-        let mut metrics = state.metrics;
-        metrics.edition = read::byte(line, 9);
-        state.metrics = metrics;
-        a.state = state;
+        a.state.metrics.edition = read::byte(line, 9);
     }
     a
 }
 
 fn set(line: &[u8], i: usize, earlier: Answer, out: &mut [f32]) -> Answer {
-    let state = earlier.state;
     let x = read::float(line, behind(i, 1));
     match read::word(line, i) {
-        1 => signal::set_phase(state, x, out),
-        2 => signal::set_duty_cycle(state, x, out),
-        3 => signal::reset_waveform(state, out),
+        1 => signal::set_phase(earlier.state, x, out),
+        2 => signal::set_duty_cycle(earlier.state, x, out),
+        3 => signal::reset_waveform(earlier.state, out),
         _ => earlier,
     }
 }
 
 // The three settings.
 fn set_up(line: &[u8], made: Answer, out: &mut [f32]) -> Answer {
-    let a = set(line, 10, with_edition(line, made), out);
-    let a = set(line, 12, a, out);
-    set(line, 14, a, out)
+    let mut a = with_edition(line, made);
+    for i in [10, 12, 14] {
+        a = set(line, i, a, out);
+    }
+    a
 }
 
 // ---- what is seen of it
@@ -79,51 +76,51 @@ fn number_of(r: Reading) -> f32 {
 }
 
 // The figures, the THD and its edition.
-pub fn metrics(m: Metrics) -> [f32; ROOM] {
-    let figures = m.figures;
-    let mut xs = records::figures(figures);
+pub fn metrics(m: Metrics) -> [f32; 21] {
+    let mut xs = [0.0; 21];
+    xs[..19].copy_from_slice(&records::figures(m.figures));
     xs[19] = m.thd;
-    xs[20] = m.edition as f32;
-    xs
-}
-
-fn with_shape(list: [f32; ROOM], shape: Shape) -> [f32; ROOM] {
-    let mut xs = list;
-    xs[21] = shape.amplitude;
-    xs[22] = shape.phase;
-    xs[23] = shape.frequency;
-    xs[24] = shape.duty_cycle;
+    xs[20] = f32::from(m.edition);
     xs
 }
 
 // What of the port these calls set.
-fn with_port(list: [f32; ROOM], port: Port) -> [f32; ROOM] {
-    let mut xs = list;
-    xs[25] = port.voltage();
-    xs[26] = port.current();
-    xs[27] = port.active_power();
-    xs[28] = number_of(port.voltage_crest_factor());
-    xs[29] = number_of(port.voltage_thd());
-    xs[30] = number_of(port.power_factor());
-    xs[31] = number_of(port.apparent_power());
-    xs
+fn port(port: Port) -> [f32; 7] {
+    [
+        port.voltage(),
+        port.current(),
+        port.active_power(),
+        number_of(port.voltage_crest_factor()),
+        number_of(port.voltage_thd()),
+        number_of(port.power_factor()),
+        number_of(port.apparent_power()),
+    ]
 }
 
 // The metrics, the shape and the port.
 fn list(state: State) -> [f32; ROOM] {
-    let xs = metrics(signal::get_metrics(state));
-    let shape = state.shape;
-    let port = state.port;
-    with_port(with_shape(xs, shape), port)
+    let metrics = metrics(signal::get_metrics(state));
+    let Shape {
+        amplitude,
+        phase,
+        frequency,
+        duty_cycle,
+        ..
+    } = state.shape;
+    let shape = [amplitude, phase, frequency, duty_cycle];
+    let port = port(state.port);
+    let parts = metrics.iter().chain(&shape).chain(&port);
+    let mut list = [0.0; ROOM];
+    for (x, part) in list.iter_mut().zip(parts) {
+        *x = *part;
+    }
+    list
 }
 
 // The counts are those at the words i and i + 1.
 pub fn answered(line: &[u8], i: usize, a: Answer) -> Said {
-    let outcome = a.outcome;
-    let state = a.state;
-    let metrics = signal::get_metrics(state);
-    let figures = metrics.figures;
-    records::counted(line, i, outcome, figures, list(state))
+    let figures = signal::get_metrics(a.state).figures;
+    records::counted(line, i, a.outcome, figures, &list(a.state))
 }
 
 pub fn call(line: &[u8], which: u32, out: &mut [f32]) -> Said {

@@ -1,30 +1,24 @@
 // Distortion, effective bits and the quotients. Of a quotient the first float is 0 for a ratio, 1 for no spur, 2 for an unusable bin.
 use quality::{Quotient, QuotientAnswer, Sfdr, SfdrAnswer};
-use replaying::lists::ROOM;
 use replaying::said::Said;
 use replaying::{read, said};
 
 // The ratio is the f64.
 fn quotient(r: QuotientAnswer) -> Said {
-    let outcome = r.outcome;
-    let quotient = r.quotient;
-    match quotient {
-        Quotient::Ratio(x) => said::with_double(outcome, x),
-        Quotient::UnusableBin => said::with_float(outcome, 2.0),
+    match r.quotient {
+        Quotient::Ratio(x) => said::with_double(r.outcome, x),
+        Quotient::UnusableBin => said::floats(r.outcome, &[2.0]),
     }
 }
 
 // The ratio is the second float.
 fn sfdr(r: SfdrAnswer) -> Said {
-    let outcome = r.outcome;
-    let quotient = r.quotient;
-    let mut floats = [0.0f32; ROOM];
-    match quotient {
-        Sfdr::Ratio(x) => floats[1] = x,
-        Sfdr::NoSpur => floats[0] = 1.0,
-        Sfdr::UnusableBin => floats[0] = 2.0,
-    }
-    said::floats(outcome, floats)
+    let floats = match r.quotient {
+        Sfdr::Ratio(x) => [0.0, x],
+        Sfdr::NoSpur => [1.0, 0.0],
+        Sfdr::UnusableBin => [2.0, 0.0],
+    };
+    said::floats(r.outcome, &floats)
 }
 
 pub fn call(line: &[u8], which: u32, a: &[f32]) -> Said {

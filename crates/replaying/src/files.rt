@@ -1,53 +1,25 @@
 // The files of cases, the lines in them, and the count.
-ghost use Rattle.std.specs.Prelude.{◌≡◌, ◌<◌, ◌≤◌, length, take};
+ghost use Rattle.std.specs.Prelude.{◌≡◌, ◌≤◌, length, take};
 
-use crate::read;
 use std::io::Read;
 use std::rt::Files;
 use std::{fs, io};
 
 // The most bytes of a file.
-pub const LARGEST: usize = 262144;
+const LARGEST: usize = 262144;
 
-#[derive(Clone, Copy)]
-pub struct Tally {
-    pub cases: u64,
-    pub differ: u64,
+#[derive(Clone, Copy, Default)]
+struct Tally {
+    cases: u64,
+    differ: u64,
 }
 
-pub fn none() -> Tally {
-    Tally {
-        cases: 0,
-        differ: 0,
+impl Tally {
+    // One more case.
+    fn count(&mut self, agrees: bool) {
+        self.cases = self.cases.wrapping_add(1);
+        self.differ = self.differ.wrapping_add(u64::from(!agrees));
     }
-}
-
-// One more case.
-pub fn counted(t: Tally, agrees: bool) -> Tally {
-    let differ = if agrees { 0 } else { 1 };
-    Tally {
-        cases: std::num::wrapping_add_u64(t.cases, 1),
-        differ: std::num::wrapping_add_u64(t.differ, differ),
-    }
-}
-
-// How many bytes the first line of these has.
-fn line_size(rest: &[u8]) -> usize
-    ensures { 0 < result }
-{
-    let n = read::size(rest, 0);
-    if n == 0 {
-        return 9;
-    }
-    n * 9
-}
-
-// Where the line that begins at `at` ends.
-pub fn line_end(cases: &[u8], at: usize) -> usize
-    requires { at < length cases.now }
-    ensures { (at < result) × (result ≤ length cases.now) }
-{
-    at + read::least(line_size(&cases[at..]), cases.len() - at)
 }
 
 // Tells what could not be read and why.
@@ -64,12 +36,8 @@ fn read_full<R: Files + Eprint>(rt: &R, name: &str, file: R::File, room: &mut [u
     let mut done = 0usize;
     for _ in 0..u64::MAX {
         match file.read(&mut room[done..]) {
-            Ok(n) => {
-                if n == 0 {
-                    break;
-                }
-                done += n;
-            }
+            Ok(0) => break,
+            Ok(n) => done += n,
             Err(error) => {
                 fail(rt, name, error);
                 break;
@@ -93,14 +61,41 @@ pub fn load<R: Files + Eprint>(rt: &R, name: &str, room: &mut [u8]) -> usize
     }
 }
 
-fn print_line<R: Print>(rt: &R, t: Tally, cases: &str) -> io::Result<()> {
-    let some = t.cases;
-    let differ = t.differ;
-    println!(rt; "{some}{cases}{differ} differences")
+// Counts the cases of a file, read into this room.
+fn count_file<R: Files + Eprint, A: Fn(&[u8]) -> bool>(
+    rt: &R,
+    name: &str,
+    room: &mut [u8],
+    agrees: &A,
+    tally: &mut Tally,
+)
+    requires { A.IsAlwaysCallable agrees.now }
+{
+    let n = load(rt, name, room);
+    for line in room[..n].split_inclusive(|b| *b == b'\n') {
+        tally.count(agrees(line));
+    }
 }
 
-// How many cases there were and how many answers differ; and the same of the cases with a wrong answer.
-pub fn print<R: Print>(rt: &R, cases: Tally, wrong: Tally) -> io::Result<()> {
-    print_line(rt, cases, " cases, ")?;
+fn print_line<R: Print>(rt: &R, t: Tally, cases: &str) -> io::Result<()> {
+    println!(rt; "{}{cases}{} differences", t.cases, t.differ)
+}
+
+// Asks of each case of these files, and of each in `wrong`, whether the library agrees, and prints how many cases there are and how many answers differ.
+pub fn replay<R: Files + Print + Eprint, A: Fn(&[u8]) -> bool>(
+    rt: &R,
+    names: &[&str],
+    agrees: A,
+) -> io::Result<()>
+    requires { A.IsAlwaysCallable agrees }
+{
+    let mut room = [0u8; LARGEST];
+    let mut right = Tally::default();
+    for name in names {
+        count_file(rt, name, &mut room, &agrees, &mut right);
+    }
+    let mut wrong = Tally::default();
+    count_file(rt, "wrong", &mut room, &agrees, &mut wrong);
+    print_line(rt, right, " cases, ")?;
     print_line(rt, wrong, " wrong cases, ")
 }

@@ -1,7 +1,6 @@
 // The lists of a line: where they stand, and how they are stored and compared. One of more than ROOM places stands there as one word: that of the number
 // in all its places, from LEVEL places on, and else the one that it is made from (made.rt) and afterwards its sum.
-ghost use Rattle.std.specs.Prelude.{◌≤◌, length};
-
+use crate::read::behind;
 use crate::{made, read};
 
 // The most places of a list whose numbers stand in the line one by one.
@@ -13,120 +12,104 @@ pub const MOST: usize = 65537;
 // The fewest places of a list that has one number in all of them.
 const LEVEL: usize = 65536;
 
-// The first words of the two slices, of the slice that may be written to and of what was answered; and the lengths.
+// The first word of a list, and how many places it has.
+#[derive(Clone, Copy)]
+pub struct List {
+    pub at: usize,
+    pub places: usize,
+}
+
+// The two slices, the slice that may be written to, and the first word of what was answered.
 #[derive(Clone, Copy)]
 pub struct Places {
-    pub a: usize,
-    pub na: usize,
-    pub b: usize,
-    pub nb: usize,
-    pub out: usize,
-    pub n: usize,
+    pub a: List,
+    pub b: List,
+    pub out: List,
     pub said: usize,
 }
 
-// How many words a list of n places takes.
-fn taken(n: usize) -> usize
-    ensures { result ≤ 32 }
-{
-    if n <= ROOM { n } else { 1 }
-}
-
-// How many numbers a call is given, at most 256.
-fn given(line: &[u8]) -> usize
-    ensures { result ≤ 256 }
-{
-    read::least(read::size(line, 3), 256)
+// The list whose count is word i.
+pub fn listed(line: &[u8], i: usize) -> List {
+    List {
+        at: behind(i, 1),
+        places: read::size(line, i),
+    }
 }
 
 pub fn placed(line: &[u8]) -> Places {
-    let a = 5 + given(line);
-    let na = read::size(line, a - 1);
-    let b = a + taken(na) + 1;
-    let nb = read::size(line, b - 1);
-    let out = b + taken(nb) + 1;
-    let n = read::size(line, out - 1);
+    let given = listed(line, 3);
+    let a = listed(line, behind(given.at, given.places));
+    let b = listed(line, a.end());
+    let out = listed(line, b.end());
     Places {
         a,
-        na,
         b,
-        nb,
         out,
-        n,
-        said: out + taken(n),
+        said: out.end(),
     }
 }
 
-// Whether one of the lists has more places than a line has words for.
-pub fn is_long(at: Places) -> bool {
-    (ROOM < at.na) | (ROOM < at.nb) | (ROOM < at.n)
-}
-
-fn is_made(n: usize) -> bool {
-    (ROOM < n) & (n < LEVEL)
-}
-
-// How many words further the next place of a list of n stands.
-fn step(n: usize) -> usize {
-    if n <= ROOM { 1 } else { 0 }
-}
-
-// Stores the n numbers whose words begin at i.
-fn fill_each(line: &[u8], i: usize, n: usize, out: &mut [f32]) {
-    let by = step(n);
-    let mut at = i;
-    let mut k = 0usize;
-    while k < out.len() {
-        out[k] = read::float(line, at);
-        at = read::behind(at, by);
-        k += 1;
+impl Places {
+    // Whether one of the lists has more places than a line has words for.
+    pub fn is_long(self) -> bool {
+        self.a.is_long() || self.b.is_long() || self.out.is_long()
     }
 }
 
-// Stores the list of n places whose words begin at i; what is behind it doesn't matter.
-pub fn fill(line: &[u8], i: usize, n: usize, out: &mut [f32]) {
-    if is_made(n) {
-        made::fill(read::word(line, i), out);
-    } else {
-        fill_each(line, i, n, out);
-    }
+// The first n places, or all where there are fewer.
+pub fn first<T>(xs: &[T], n: usize) -> &[T] {
+    &xs[..n.min(xs.len())]
 }
 
-// 01, 'the same number': equal as floats, with zeros of either sign alike and any NaN equal to any other.
-fn same32(a: f32, b: f32) -> bool {
-    if a != a {
-        return b != b;
-    }
-    a == b
+// The same of places to be written to.
+pub fn first_mut<T>(xs: &mut [T], n: usize) -> &mut [T] {
+    let n = n.min(xs.len());
+    &mut xs[..n]
 }
 
-// Whether the n numbers whose words begin at i stand in the first of these.
-fn same_each(line: &[u8], i: usize, n: usize, xs: &[f32]) -> bool {
-    if xs.len() < n {
-        return false;
-    }
-    let by = step(n);
-    let mut at = i;
-    let mut all = true;
-    let mut k = 0usize;
-    while k < n {
-        all = all & same32(read::float(line, at), xs[k]);
-        at = read::behind(at, by);
-        k += 1;
-    }
-    all
+// 'The same number': equal as floats, with zeros of either sign alike and any NaN equal to any other.
+pub fn same_number(a: f64, b: f64) -> bool {
+    a == b || a.is_nan() && b.is_nan()
 }
 
-fn sum_of_first(n: usize, xs: &[f32]) -> u32 {
-    let n = read::least(n, xs.len());
-    let from = 0usize;
-    made::sum(&xs[from..n])
-}
-
-// Whether the list of n places whose words begin at i stands in the first of these.
-pub fn same(line: &[u8], i: usize, n: usize, xs: &[f32]) -> bool {
-    if is_made(n) {
-        return sum_of_first(n, xs) == read::word(line, i);
+impl List {
+    fn is_long(self) -> bool {
+        ROOM < self.places
     }
-    same_each(line, i, n, xs)
+
+    // The word behind it.
+    pub fn end(self) -> usize {
+        behind(self.at, if self.is_long() { 1 } else { self.places })
+    }
+
+    // Stores it; what is behind its places doesn't matter.
+    pub fn fill(self, line: &[u8], out: &mut [f32]) {
+        if self.places <= ROOM {
+            for (k, x) in out.iter_mut().enumerate() {
+                *x = read::float(line, behind(self.at, k));
+            }
+        } else if self.places < LEVEL {
+            made::fill(read::word(line, self.at), out);
+        } else {
+            out.fill(read::float(line, self.at));
+        }
+    }
+
+    // Whether it stands in the first of these.
+    pub fn stands_in(self, line: &[u8], xs: &[f32]) -> bool {
+        let Some(xs) = xs.get(..self.places) else {
+            return false;
+        };
+        if self.places <= ROOM {
+            let here = |k: usize| f64::from(read::float(line, behind(self.at, k)));
+            xs.iter()
+                .enumerate()
+                .all(|(k, x)| same_number(here(k), f64::from(*x)))
+        } else if self.places < LEVEL {
+            made::sum(xs) == read::word(line, self.at)
+        } else {
+            let all = f64::from(read::float(line, self.at));
+            xs.iter().all(|x| same_number(all, f64::from(*x)))
+        }
+    }
 }

@@ -9,64 +9,43 @@ pub const PAIRS: usize = 20;
 
 // The byte k of the text from word i on.
 fn byte_at(line: &[u8], i: usize, k: usize) -> u8 {
-    let four = read::word(line, behind(i, k / 4));
-    let shifted = match k % 4 {
-        0 => four / 0x100_0000,
-        1 => four / 0x1_0000,
-        2 => four / 0x100,
-        _ => four,
-    };
-    (shifted % 256) as u8
+    read::word(line, behind(i, k / 4)).to_be_bytes()[k % 4]
 }
 
 // Stores the text from word i on.
 pub fn text(line: &[u8], i: usize, out: &mut [u8]) {
-    let mut k = 0usize;
-    while k < out.len() {
-        out[k] = byte_at(line, i, k);
-        k += 1;
+    for (k, b) in out.iter_mut().enumerate() {
+        *b = byte_at(line, i, k);
     }
 }
 
 // Whether the text from word i on stands in the first n places.
 pub fn same_text(line: &[u8], i: usize, n: usize, text: &[u8]) -> bool {
-    if text.len() < n {
+    let Some(text) = text.get(..n) else {
         return false;
-    }
-    let mut all = true;
-    let mut k = 0usize;
-    while k < n {
-        all = all & (text[k] == byte_at(line, i, k));
-        k += 1;
-    }
-    all
+    };
+    let mut bytes = text.iter().enumerate();
+    bytes.all(|(k, b)| *b == byte_at(line, i, k))
 }
 
-// The voltage code, or the current code, of word i.
-pub fn code_at(line: &[u8], i: usize, of_voltage: bool) -> i16 {
+// The voltage code and the current code of word i.
+pub fn pair_at(line: &[u8], i: usize) -> (i16, i16) {
     let word = read::word(line, i);
-    if of_voltage {
-        return hexadecimal::code((word / 0x1_0000 % 0x1_0000) as u16);
-    }
-    hexadecimal::code((word % 0x1_0000) as u16)
+    (
+        hexadecimal::code((word / 0x1_0000) as u16),
+        hexadecimal::code((word % 0x1_0000) as u16),
+    )
 }
 
-// Stores the voltage or the current codes from word i on.
-pub fn codes(line: &[u8], i: usize, of_voltage: bool, out: &mut [i16]) {
-    let mut k = 0usize;
-    while k < out.len() {
-        out[k] = code_at(line, behind(i, k), of_voltage);
-        k += 1;
+// Stores the codes from word i on.
+pub fn pairs(line: &[u8], i: usize, volts: &mut [i16], amps: &mut [i16]) {
+    for (k, (volt, amp)) in volts.iter_mut().zip(amps).enumerate() {
+        (*volt, *amp) = pair_at(line, behind(i, k));
     }
 }
 
-// Whether the voltage or the current codes from word i on are these.
-pub fn same_codes(line: &[u8], i: usize, of_voltage: bool, codes: &[i16]) -> bool {
-    let mut all = true;
-    let mut k = 0usize;
-    while k < codes.len() {
-        all = all & (codes[k] == code_at(line, behind(i, k), of_voltage));
-        k += 1;
-    }
-    all
+// Whether the codes from word i on are these.
+pub fn same_pairs(line: &[u8], i: usize, volts: &[i16], amps: &[i16]) -> bool {
+    let mut pairs = volts.iter().zip(amps).enumerate();
+    pairs.all(|(k, (volt, amp))| (*volt, *amp) == pair_at(line, behind(i, k)))
 }

@@ -1,5 +1,4 @@
 // Records as they stand in a line or in what was answered.
-use crate::lists::ROOM;
 use crate::said::Said;
 use crate::{read, said};
 use answers::Outcome;
@@ -17,46 +16,43 @@ pub fn reading_at(line: &[u8], i: usize) -> Reading {
 
 // p, nonactive, s and pf.
 pub fn power(r: PowerAnswer) -> Said {
-    let outcome = r.outcome;
-    let mut xs = [0.0f32; ROOM];
-    xs[0] = r.power.p;
-    xs[1] = r.power.nonactive;
-    xs[2] = r.power.s;
-    xs[3] = r.power.pf;
-    said::floats(outcome, xs)
+    said::floats(
+        r.outcome,
+        &[r.power.p, r.power.nonactive, r.power.s, r.power.pf],
+    )
 }
 
 // The outcome and these, where the record's counts are the words i and i + 1; no f32 holds every count.
-pub fn counted(line: &[u8], i: usize, outcome: Outcome, r: TimeFigures, xs: [f32; ROOM]) -> Said {
+pub fn counted(line: &[u8], i: usize, outcome: Outcome, r: TimeFigures, xs: &[f32]) -> Said {
     let not_numbers = read::word(line, i);
     let infinite = read::word(line, read::behind(i, 1));
-    if (not_numbers != r.not_numbers) | (infinite != r.infinite) {
+    if not_numbers != r.not_numbers || infinite != r.infinite {
         return said::nothing();
     }
     said::floats(outcome, xs)
 }
 
-// The 19 time figures as the first of a list.
-pub fn figures(r: TimeFigures) -> [f32; ROOM] {
-    let mut xs = [0.0f32; ROOM];
-    xs[0] = r.peak_to_peak;
-    xs[1] = r.max;
-    xs[2] = r.min;
-    xs[3] = r.positive_peak;
-    xs[4] = r.negative_peak;
-    xs[5] = r.average;
-    xs[6] = r.dc_rms;
-    xs[7] = r.ac_rms;
-    xs[8] = r.duty_cycle_pos;
-    xs[9] = r.duty_cycle_neg;
-    xs[10] = r.rise_time;
-    xs[11] = r.fall_time;
-    xs[12] = r.crest_factor;
-    xs[13] = r.frequency;
-    xs[14] = r.period;
-    xs[15] = r.form_factor;
-    xs[16] = r.overshoot;
-    xs[17] = r.undershoot;
-    xs[18] = r.slew_rate;
-    xs
+// The 19 time figures.
+pub fn figures(r: TimeFigures) -> [f32; 19] {
+    [
+        r.peak_to_peak,
+        r.max,
+        r.min,
+        r.positive_peak,
+        r.negative_peak,
+        r.average,
+        r.dc_rms,
+        r.ac_rms,
+        r.duty_cycle_pos,
+        r.duty_cycle_neg,
+        r.rise_time,
+        r.fall_time,
+        r.crest_factor,
+        r.frequency,
+        r.period,
+        r.form_factor,
+        r.overshoot,
+        r.undershoot,
+        r.slew_rate,
+    ]
 }

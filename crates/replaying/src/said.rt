@@ -1,5 +1,5 @@
-// What a call answers besides what it writes: its number of 01's table, an f64, and f32; those that a call doesn't have are 0.
-use crate::lists::ROOM;
+// What a call answers besides what it writes: its number of the table of outcomes, an f64, and f32; those that a call doesn't have are 0.
+use crate::lists::{Places, ROOM, same_number};
 use crate::{lists, read};
 use answers::{Measured, Outcome};
 
@@ -12,9 +12,9 @@ pub struct Said {
 
 pub fn code(code: u32) -> Said {
     Said {
-        code: code,
+        code,
         wide: 0.0,
-        floats: [0.0f32; ROOM],
+        floats: [0.0; ROOM],
     }
 }
 
@@ -24,7 +24,7 @@ pub fn nothing() -> Said {
 }
 
 pub fn code_of(outcome: Outcome) -> u32 {
-    answers::number_of(outcome) as u32
+    u32::from(answers::number_of(outcome))
 }
 
 pub fn ended(outcome: Outcome) -> Said {
@@ -39,36 +39,31 @@ pub fn where_right(right: bool, outcome: Outcome) -> Said {
     ended(outcome)
 }
 
-pub fn floats(outcome: Outcome, floats: [f32; ROOM]) -> Said {
+// The outcome and these numbers.
+pub fn floats(outcome: Outcome, xs: &[f32]) -> Said {
+    let mut floats = [0.0; ROOM];
+    for (float, x) in floats.iter_mut().zip(xs) {
+        *float = *x;
+    }
     Said {
-        code: code_of(outcome),
-        wide: 0.0,
-        floats: floats,
+        floats,
+        ..ended(outcome)
     }
 }
 
-// The outcome and one number.
-pub fn with_float(outcome: Outcome, x: f32) -> Said {
-    let mut xs = [0.0f32; ROOM];
-    xs[0] = x;
-    floats(outcome, xs)
-}
-
 pub fn measured(m: Measured) -> Said {
-    let outcome = m.outcome;
-    with_float(outcome, m.value)
+    floats(m.outcome, &[m.value])
 }
 
 pub fn float(x: f32) -> Said {
-    with_float(Outcome::Done, x)
+    floats(Outcome::Done, &[x])
 }
 
-// The same for an f64.
-pub fn with_double(outcome: Outcome, x: f64) -> Said {
+// The outcome and an f64.
+pub fn with_double(outcome: Outcome, wide: f64) -> Said {
     Said {
-        code: code_of(outcome),
-        wide: x,
-        floats: [0.0f32; ROOM],
+        wide,
+        ..ended(outcome)
     }
 }
 
@@ -78,28 +73,21 @@ pub fn double(x: f64) -> Said {
 
 // ---- the comparison
 
-// As `same32` of lists.rt.
-pub fn same64(a: f64, b: f64) -> bool {
-    if a != a {
-        return b != b;
-    }
-    a == b
+// Whether the line says the same: the number, the f64, how many f32 there are, these, and the slice that may be written to afterwards.
+pub fn same(line: &[u8], at: Places, said: Said, after: &[f32]) -> bool {
+    let wide = read::double(line, read::behind(at.said, 1));
+    let floats = lists::listed(line, read::behind(at.said, 3));
+    let out = lists::List {
+        at: floats.end(),
+        ..at.out
+    };
+    read::word(line, at.said) == said.code
+        && same_number(wide, said.wide)
+        && floats.stands_in(line, &said.floats)
+        && out.stands_in(line, after)
 }
 
-// Whether the line says the same from word i on: the number, the f64, how many f32 there are, these, and the n places of the slice afterwards.
-pub fn same(line: &[u8], i: usize, said: Said, n: usize, after: &[f32]) -> bool {
-    let code = said.code;
-    let wide = said.wide;
-    let floats = said.floats;
-    let count = read::size(line, read::behind(i, 3));
-    let at = read::behind(i, 4);
-    (read::word(line, i) == code)
-        & same64(read::double(line, read::behind(i, 1)), wide)
-        & lists::same(line, at, count, &floats)
-        & lists::same(line, read::behind(at, count), n, after)
-}
-
-// The same for a call that is given no slice.
+// The same for a call that is given no slice to write to.
 pub fn agrees(line: &[u8], said: Said) -> bool {
-    same(line, lists::placed(line).said, said, 0, &[0.0f32; 1])
+    same(line, lists::placed(line), said, &[])
 }
