@@ -36,6 +36,7 @@ pub fn listed(line: &[u8], i: usize) -> List {
     }
 }
 
+// The numbers that the call is given stand before them, one by one however many they are.
 pub fn placed(line: &[u8]) -> Places {
     let given = listed(line, 3);
     let a = listed(line, behind(given.at, given.places));

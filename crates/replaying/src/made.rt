@@ -34,7 +34,7 @@ fn word_of(x: f32) -> u32 {
     }
 }
 
-// The same for an f64.
+// The same for an f64, whose bits are two words.
 fn long_of(x: f64) -> u64 {
     if x == 0.0 {
         0
