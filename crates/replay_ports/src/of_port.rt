@@ -1,6 +1,6 @@
 // Port readings: from a cleared port six settings, each a number and four words for its arguments, and then one reading.
 use answers::Outcome;
-use port::{Port, Reading};
+use port::Port;
 use replaying::read::behind;
 use replaying::records::reading_at;
 use replaying::said::Said;
@@ -61,10 +61,10 @@ fn flag(b: bool) -> Said {
 }
 
 // A reading as two floats: 1 and the number, or 0 and 0.
-fn reading(r: Reading) -> Said {
+fn reading(r: Option<f32>) -> Said {
     match r {
-        Reading::Number(x) => present(x),
-        Reading::Absent => said::code(0),
+        Some(x) => present(x),
+        None => said::code(0),
     }
 }
 
@@ -90,7 +90,7 @@ fn get(port: Port, which: u32, n: u8) -> Said {
     }
 }
 
-fn get_reading(port: Port, which: u32, n: u8) -> Reading {
+fn get_reading(port: Port, which: u32, n: u8) -> Option<f32> {
     match which {
         3 => port.frequency(),
         4 => port.phase_angle(),
@@ -107,7 +107,7 @@ fn get_reading(port: Port, which: u32, n: u8) -> Reading {
         18 => port.efficiency(),
         19 => port.losses(),
         22 => port.temperature(),
-        _ => Reading::Absent,
+        _ => None,
     }
 }
 

@@ -2,7 +2,7 @@
 // but where the line says 3: there `new` was on eight samples of its own, so that settings that are refused find a state. Before the settings the state may be
 // given another edition, as a caller can.
 use generator::Shape;
-use port::{Port, Reading};
+use port::Port;
 use replaying::lists::ROOM;
 use replaying::read::behind;
 use replaying::said::Said;
@@ -67,13 +67,8 @@ fn set_up(line: &[u8], made: Answer, out: &mut [f32]) -> Answer {
 
 // ---- what is seen of it
 
-// The number of a reading; -1 where it is absent.
-fn number_of(r: Reading) -> f32 {
-    match r {
-        Reading::Number(x) => x,
-        Reading::Absent => -1.0,
-    }
-}
+// The number that stands for a reading that is absent.
+const ABSENT: f32 = -1.0;
 
 // The figures, the THD and its edition.
 pub fn metrics(m: Metrics) -> [f32; 21] {
@@ -90,10 +85,10 @@ fn port(port: Port) -> [f32; 7] {
         port.voltage(),
         port.current(),
         port.active_power(),
-        number_of(port.voltage_crest_factor()),
-        number_of(port.voltage_thd()),
-        number_of(port.power_factor()),
-        number_of(port.apparent_power()),
+        port.voltage_crest_factor().unwrap_or(ABSENT),
+        port.voltage_thd().unwrap_or(ABSENT),
+        port.power_factor().unwrap_or(ABSENT),
+        port.apparent_power().unwrap_or(ABSENT),
     ]
 }
 

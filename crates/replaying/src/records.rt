@@ -3,15 +3,11 @@ use crate::said::Said;
 use crate::{read, said};
 use answers::Outcome;
 use figures::TimeFigures;
-use port::Reading;
 use power::PowerAnswer;
 
 // A port's reading at the words i, whether there is a number, and i + 1.
-pub fn reading_at(line: &[u8], i: usize) -> Reading {
-    if read::word(line, i) == 0 {
-        return Reading::Absent;
-    }
-    Reading::Number(read::float(line, read::behind(i, 1)))
+pub fn reading_at(line: &[u8], i: usize) -> Option<f32> {
+    (read::word(line, i) != 0).then(|| read::float(line, read::behind(i, 1)))
 }
 
 // p, nonactive, s and pf.
