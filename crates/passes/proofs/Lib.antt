@@ -1,2 +1,2 @@
 -- Laws of this crate. Assumes nothing.
-pub mod NumbersInSteps
+pub mod Folded

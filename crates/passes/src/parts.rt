@@ -27,22 +27,18 @@ pub fn tallied(n: u32, holds: bool) -> u32
 }
 
 // Whether none of so many samples from a place on is a NaN: where it holds, `as f64` is defined at each, and a loop over them needs no test of its own.
-// (Counting them is what processors do best: four samples at a time, and nothing waits for a test.)
+// (Each sample is looked at: so the compiler takes several at a time, and nothing waits for a test.)
 pub fn numbers_in(samples: &[f32], from: usize, count: usize) -> bool
     requires { (from + count ≤ length samples.now) × (count < 4294967295) }
     ensures { result ≡ numbers_in samples.now from count }
 {
-    let mut n = 0u32;
-    let mut k = 0usize;
-    while k < count {
-        let x = samples[from + k];
-        n = tallied(n, x == x);
-        k += 1;
-    }
-    n as usize == count
+    samples[from..from + count]
+        .iter()
+        .fold(true, |all, &x| all & (x == x))
 }
 
 // Whether no sample is a NaN.
+#[tactic(auto, unfolding(laws::specs::Samples::all_numbers))]
 pub fn all_numbers(samples: &[f32]) -> bool
     requires { length samples.now < 4294967295 }
     ensures { result ≡ all_numbers samples.now }
