@@ -12,16 +12,13 @@ use passes::parts::tallied;
 pub fn total(samples: &[f32]) -> f64
     ensures { result ≡ total_of samples.now }
 {
-    let mut sum: f64 = 0.0;
-    let mut k = 0usize;
-    while k < samples.len() {
-        sum = sum + std::num::f32_to_f64_with_nan(samples[k]);
-        k += 1;
-    }
-    sum
+    samples
+        .iter()
+        .fold(0.0, |sum, &x| sum + std::num::f32_to_f64_with_nan(x))
 }
 
 // A sum over n samples as a mean, narrowed once.
+#[tactic(auto, unfolding(crate::specs::Timing::narrowed_mean))]
 pub fn mean(total: f64, n: usize) -> f32
     requires { n ≤ longest }
     ensures { result ≡ narrowed_mean total n }
@@ -38,6 +35,7 @@ pub struct Crossings {
 }
 
 // Whether the samples rise through the mean from one to the next.
+#[tactic(auto, unfolding(crate::specs::Timing::rises_at))]
 fn rises(mean: f32, prev: f32, curr: f32) -> bool
     ensures { result ≡ rises_at mean prev curr }
 {
@@ -45,40 +43,37 @@ fn rises(mean: f32, prev: f32, curr: f32) -> bool
 }
 
 // How many rising crossings of this mean there are. (The places are found apart: so the compiler takes four samples at a time here.)
+#[tactic(auto, unfolding(laws::specs::Walks::pairs, crate::specs::Timing::crossings_of))]
 fn count_crossings(samples: &[f32], mean: f32) -> u32
     requires { length samples.now ≤ longest }
     ensures { result ≡ (crossings_of mean samples.now).count }
 {
-    let mut n = 0u32;
-    let mut i = 1usize;
-    while i < samples.len() {
+    let mut n = 0;
+    for i in 1..samples.len() {
         n = tallied(n, rises(mean, samples[i - 1], samples[i]));
-        i += 1;
     }
     n
 }
 
 // The place of the first crossing, looked for from the front; 0 where there is none.
+#[tactic(auto, unfolding(laws::specs::Walks::pairs, crate::specs::Timing::crossings_of))]
 fn first_crossing(samples: &[f32], mean: f32) -> usize
     ensures { result ≡ (crossings_of mean samples.now).first }
 {
-    let mut i = 1usize;
-    while i < samples.len() {
+    for i in 1..samples.len() {
         if rises(mean, samples[i - 1], samples[i]) {
             return i;
         }
-        i += 1;
     }
     0
 }
 
 // The place of the last crossing, looked for from the end; 0 where there is none.
+#[tactic(auto, unfolding(laws::specs::Walks::pairs, crate::specs::Timing::crossings_of))]
 fn last_crossing(samples: &[f32], mean: f32) -> usize
     ensures { result ≡ (crossings_of mean samples.now).last }
 {
-    let mut i = samples.len();
-    while i > 1 {
-        i -= 1;
+    for i in (1..samples.len()).rev() {
         if rises(mean, samples[i - 1], samples[i]) {
             return i;
         }
@@ -87,6 +82,7 @@ fn last_crossing(samples: &[f32], mean: f32) -> usize
 }
 
 // Cycles a second, of two crossings or more.
+#[tactic(auto, unfolding(crate::specs::Timing::frequency_from))]
 fn frequency_from(s: Crossings, rate: f32) -> f32
     requires { (2 ≤ s.count) × (s.count ≤ longest) × (s.first ≤ s.last) × (s.last ≤ longest) }
     ensures { result ≡ frequency_from s rate }
@@ -128,14 +124,12 @@ fn next_above(samples: &[f32], w: f32, from: usize) -> usize
     requires { (1 ≤ from) × (from - 1 ≤ length samples.now - 1) }
     ensures { NextAbove samples.now w from result }
 {
-    let mut i = from;
-    while i < samples.len() {
+    for i in from..samples.len() {
         if step(samples[i - 1], samples[i]) > w {
             return i;
         }
-        i += 1;
     }
-    i
+    samples.len().max(from)
 }
 
 // The largest slew rate over all neighbours, dt apart: only a step above all before it can be steeper.
@@ -154,6 +148,7 @@ fn steepest(samples: &[f32], dt: f32) -> f32
 }
 
 // The largest slew rate at this many samples a second.
+#[tactic(auto, using(crate::proofs::Steepness::time_unsigned), unfolding(crate::specs::Timing::slew_of))]
 pub fn slew(samples: &[f32], rate: f32) -> f32
     ensures { result ≡ slew_of samples.now rate }
 {

@@ -4,7 +4,4 @@ use Rattle.timing.proofs.Crossing.{up_to}
 use Rattle.timing.proofs.parts.count_crossings.Given as goal
 
 abbrev pub invariant-loop-i : goal.invariant-loop-i
-invariant-loop-i l = (1 ≤ l.i) × (l.i - 1 ≤ length l.samples - 1) × (l.n ≡ (up_to l.mean l.samples (l.i - 1)).count)
-
-abbrev pub decreases-loop-i : goal.decreases-loop-i
-decreases-loop-i l = length l.samples - l.i
+invariant-loop-i l = (l.i - 1 ≤ length l.samples - 1) × (l.n ≡ (up_to l.mean l.samples (l.i - 1)).count)

@@ -1,23 +1,16 @@
-use Rattle.std.proofs.Common.{◌≡◌, length, refl, arith}
-use lib.Ieee.{binary64, add}
+-- `timing::parts::total` meets its contract. Assumes nothing.
+use Rattle.std.proofs.Common.{◌≡◌, length, take, map, refl, ◌∙◌, rules, arith, take_all}
+use denote.Bor.{Bor}
+use lib.Ieee.{Float, binary64, add}
 use Rattle.laws.specs.Literals.{zero64}
+use Rattle.passes.proofs.Folded.{folded}
 use Rattle.timing.specs.Timing.{total_of}
-use Rattle.laws.specs.Walks.{over}
-use Rattle.laws.proofs.Turn.{over_next}
 use Rattle.timing.proofs.parts.total.Goals as goal
-
-pub loop-k-init : goal.loop-k-init
-unfolding over
-loop-k-init c = (omega arith, refl)
-
-pub loop-k-preserved : goal.loop-k-preserved
-loop-k-preserved c =
-    let l = c.loop-k in
-    (omega arith, over_next (add binary64) zero64 c.args.samples.now l.k l.invariant.1 c.f32_to_f64_with_nan-sum.ensures)
 
 pub returns : goal.returns
 unfolding total_of
 returns c =
-    let l = c.loop-k in
-    let e : l.k ≡ length c.args.samples.now = omega arith in
-    rw (l.invariant.1, e)
+    let xs = c.args.samples.now in
+    let h = c.fold.ensures.runs in
+    let items : map (λ (x : Bor Float). x.now) h.0.items ≡ take (length xs) xs = (c.iter.ensures.runs h.0 h.0.seen).4 h.2 ∙ grind (arith, take_all) in
+    folded (add binary64) (add binary64) (λ a x. refl) zero64 h.0.items (length xs) xs (h.3 _ (λ a b f r k. search rules)) items (omega arith)
