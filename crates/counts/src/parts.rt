@@ -42,18 +42,16 @@ fn is_infinite(x: f32) -> bool
 }
 
 // Both in one walk.
+#[tactic(auto, unfolding(laws::specs::Walks::over, laws::specs::HowMany::how_many, crate::specs::Counts::not_numbers_of, crate::specs::Counts::infinite_of))]
 pub fn count(samples: &[f32]) -> Counts
     requires { length samples.now ≤ longest }
     ensures { result ≡ counts_of samples.now }
 {
-    let mut not_numbers = 0u32;
-    let mut infinite = 0u32;
-    let mut k = 0usize;
-    while k < samples.len() {
-        let x = samples[k];
+    let mut not_numbers = 0;
+    let mut infinite = 0;
+    for &x in samples {
         not_numbers = tallied(not_numbers, is_no_number(x));
         infinite = tallied(infinite, is_infinite(x));
-        k += 1;
     }
     Counts {
         not_numbers,
