@@ -9,60 +9,52 @@ ghost use Rattle.power.specs.Blocks.{product_from, added};
 
 use crate::parts::Sums;
 
-// The products of the pairs from a place on, in the first places of each buffer.
-fn products(
-    voltage: &[f32],
-    current: &[f32],
-    from: usize,
-    count: usize,
-    vi: &mut [f64; 32],
-    vv: &mut [f64; 32],
-    ii: &mut [f64; 32],
-)
+// The products of a block's pairs, in the first places of each array.
+#[derive(Clone, Copy)]
+struct Block {
+    vi: [f64; 32],
+    vv: [f64; 32],
+    ii: [f64; 32],
+}
+
+// The products of the pairs from a place on, put into a block.
+#[tactic(auto, unfolding(laws::specs::Filled::filled))]
+fn products(voltage: &[f32], current: &[f32], from: usize, count: usize, block: &mut Block)
     requires voltage_len { length voltage.now ≡ length current.now }
     requires count_in_bounds { from + count ≤ length voltage.now }
     requires count_bound { count ≤ 32 }
     requires voltage_value { all_numbers voltage.now ≡ true }
     requires current_value { all_numbers current.now ≡ true }
-    requires vi_len { length vi.old ≡ 32 }
-    requires vv_len { length vv.old ≡ 32 }
-    requires ii_len { length ii.old ≡ 32 }
-    ensures vi_after { vi.new ≡ filled (product_from voltage.now current.now from) count vi.old }
-    ensures vv_after { vv.new ≡ filled (product_from voltage.now voltage.now from) count vv.old }
-    ensures ii_after { ii.new ≡ filled (product_from current.now current.now from) count ii.old }
+    ensures vi_after { block.new.vi ≡ filled (product_from voltage.now current.now from) count block.old.vi }
+    ensures vv_after { block.new.vv ≡ filled (product_from voltage.now voltage.now from) count block.old.vv }
+    ensures ii_after { block.new.ii ≡ filled (product_from current.now current.now from) count block.old.ii }
 {
-    let mut j = 0usize;
-    while j < count {
+    for j in 0..count {
         let v = voltage[from + j] as f64;
         let i = current[from + j] as f64;
-        vi[j] = v * i;
-        vv[j] = v * v;
-        ii[j] = i * i;
-        j += 1;
+        block.vi[j] = v * i;
+        block.vv[j] = v * v;
+        block.ii[j] = i * i;
     }
 }
 
-// The sums with the first products of each buffer added, in index order.
-fn sums_with(
-    t: Sums,
-    count: usize,
-    products_vi: &[f64; 32],
-    products_vv: &[f64; 32],
-    products_ii: &[f64; 32],
-) -> Sums
+// The sums with the first products of each array added, in index order.
+#[tactic(auto, using(laws::proofs::Turn::over_next), unfolding(laws::specs::Walks::over))]
+fn sums_with(t: Sums, count: usize, block: &Block) -> Sums
     requires count_bound { count ≤ 32 }
     requires count_le_longest { t.count ≤ longest }
-    ensures { result ≡ added t count products_vi.now products_vv.now products_ii.now }
+    ensures { result ≡ added t count block.now.vi block.now.vv block.now.ii }
 {
-    let mut vi = t.vi;
-    let mut vv = t.vv;
-    let mut ii = t.ii;
-    let mut j = 0usize;
-    while j < count {
-        vi = vi + products_vi[j];
-        vv = vv + products_vv[j];
-        ii = ii + products_ii[j];
-        j += 1;
+    let Sums {
+        mut vi,
+        mut vv,
+        mut ii,
+        ..
+    } = t;
+    for j in 0..count {
+        vi += block.vi[j];
+        vv += block.vv[j];
+        ii += block.ii[j];
     }
     Sums {
         vi,
@@ -72,14 +64,7 @@ fn sums_with(
     }
 }
 
-// The length of a block, of which so many pairs are left.
-fn block_of(left: usize) -> usize
-    requires { 1 ≤ left }
-    ensures { (1 ≤ result) × ((result ≤ left) × (result ≤ 32)) }
-{
-    if left < 32 { left } else { 32 }
-}
-
+#[tactic(auto, unfolding(crate::specs::Power::sum_to))]
 pub fn sums_of_numbers(voltage: &[f32], current: &[f32]) -> Sums
     requires voltage_len { length voltage.now ≡ length current.now }
     requires voltage_len_bound { length voltage.now ≤ longest }
@@ -87,20 +72,22 @@ pub fn sums_of_numbers(voltage: &[f32], current: &[f32]) -> Sums
     requires current_value { all_numbers current.now ≡ true }
     ensures { result ≡ capture_sums voltage.now current.now (length voltage.now) }
 {
-    let mut vi = [0.0f64; 32];
-    let mut vv = [0.0f64; 32];
-    let mut ii = [0.0f64; 32];
+    let mut block = Block {
+        vi: [0.0; 32],
+        vv: [0.0; 32],
+        ii: [0.0; 32],
+    };
     let mut t = Sums {
         vi: 0.0,
         vv: 0.0,
         ii: 0.0,
         count: 0,
     };
-    let mut k = 0usize;
+    let mut k = 0;
     while k < voltage.len() {
-        let count = block_of(voltage.len() - k);
-        products(voltage, current, k, count, &mut vi, &mut vv, &mut ii);
-        t = sums_with(t, count, &vi, &vv, &ii);
+        let count = (voltage.len() - k).min(32);
+        products(voltage, current, k, count, &mut block);
+        t = sums_with(t, count, &block);
         k += count;
     }
     t
