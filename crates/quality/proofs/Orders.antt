@@ -1,4 +1,4 @@
--- The loop over the orders of a bin: it starts at an order whose predecessor is inside, takes one order a turn, and ends at the first multiple at or past the end. Assumes nothing.
+-- The loop over the orders of a bin: it starts at an order whose predecessor is inside, takes one order a turn, and ends behind the last order whose multiple is inside. Assumes nothing.
 use Rattle.std.proofs.Common.{◌≡◌, ℕ, zero, suc, ◌+◌, ◌-◌, ◌*◌, ◌<◌, ◌≤◌, List, length, sym, refl, ap, ◌∙◌, subst, le_trans, le_of_eq, lt_of_le_of_lt, add-zero, mul-le-mul_right, mul-le-mul_left, one-mul, mul-suc, mul-add, arith}
 use lib.Ieee.{Float, binary64, add}
 use Rattle.laws.specs.Harmonics.{last_order}
@@ -6,7 +6,7 @@ use Rattle.laws.specs.Literals.{zero64}
 use Rattle.laws.specs.Samples.{square_of}
 use Rattle.laws.specs.Walks.{over}
 use Rattle.laws.proofs.Turn.{over_from}
-use Rattle.laws.proofs.Harmonics.{none_yet, one_more_lem, all_orders, last_inside}
+use Rattle.laws.proofs.Harmonics.{none_yet, one_more_lem, all_orders, within}
 use Rattle.quality.specs.Powers.{magnitude_in, power_in, Inside, Summed, with_squares}
 
 -- ---- the places that a bin below n reaches
@@ -99,13 +99,13 @@ module _ (s : List Float) (b first : ℕ) where
       at : h + k < length s → b * (h + k) < length s
       at g = subst (λ (x : ℕ). x < length s) (sym (own (h + k))) g
 
-  -- the first multiple at or past the end: the order before it is the last inside
-  pub summed_all : (h : ℕ) {t : Float} → Summed s b first t h → length s ≤ b * h → t ≡ power_in s b first
+  -- past the last order whose multiple is inside
+  pub summed_all : (h : ℕ) {t : Float} → Summed s b first t h → last_order (length s) b < h → t ≡ power_in s b first
   unfolding power_in
   summed_all h m l =
       let i = m.inside in
-      let q = last_inside (length s) b h i.order i.before l in
-      all_orders (magnitude_in s) b first h (last_order (length s) b) (go h _ i.order q) m.sum
+      let w = within (length s) b (h - 1) i.bin (omega (arith, i.end)) in
+      all_orders (magnitude_in s) b first h (last_order (length s) b) (go h _ i.order (w.all i.before) l) m.sum
     where
-      go : (h last : ℕ) → 1 ≤ h → last ≡ h - 1 → h ≡ last + 1
-      go h last l e = omega arith
+      go : (h last : ℕ) → 1 ≤ h → h - 1 ≤ last → last < h → h ≡ last + 1
+      go h last o k l = omega arith

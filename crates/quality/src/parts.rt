@@ -14,14 +14,8 @@ pub fn power(spectrum: &[f32], bin: usize, first: usize) -> f64
 {
     let start = power_of_fours(spectrum, bin, power_of_blocks(spectrum, bin, first));
     let mut sum = start.sum;
-    let mut h = start.order;
-    loop {
-        let place = bin * h;
-        if place >= spectrum.len() {
-            break;
-        }
-        sum = sum + square(spectrum[place]);
-        h += 1;
+    for h in start.order..(spectrum.len() - 1) / bin + 1 {
+        sum += square(spectrum[bin * h]);
     }
     sum
 }

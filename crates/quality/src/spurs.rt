@@ -14,14 +14,13 @@ fn spur(bin: usize, best: f32, i: usize, x: f32) -> f32
 }
 
 // The largest spur of the places from 1 on.
+#[tactic(auto, unfolding(laws::specs::Walks::pairs, crate::specs::Quality::spur_of))]
 pub fn largest_spur(spectrum: &[f32], bin: usize) -> f32
     ensures { result ≡ spur_of spectrum.now bin }
 {
-    let mut best: f32 = 0.0;
-    let mut i = 1usize;
-    while i < spectrum.len() {
+    let mut best = 0.0;
+    for i in 1..spectrum.len() {
         best = spur(bin, best, i, spectrum[i]);
-        i += 1;
     }
     best
 }

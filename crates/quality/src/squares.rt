@@ -51,16 +51,15 @@ fn square_of_number(x: f32) -> f64
 }
 
 // The sum with the squares of a block of numbers from a place on.
+#[tactic(auto, unfolding(laws::specs::Walks::over, crate::specs::Powers::with_squares))]
 fn with_block(spectrum: &[f32], from: usize, start: f64) -> f64
     requires squares_at_once_in_bounds { from + squares_at_once ≤ length spectrum.now }
     requires squares_at_once_value { numbers_in spectrum.now from squares_at_once ≡ true }
     ensures { result ≡ with_squares spectrum.now from start squares_at_once }
 {
     let mut sum = start;
-    let mut k = 0usize;
-    while k < BLOCK {
-        sum = sum + square_of_number(spectrum[from + k]);
-        k += 1;
+    for &x in &spectrum[from..from + BLOCK] {
+        sum += square_of_number(x);
     }
     sum
 }
