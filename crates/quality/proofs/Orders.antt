@@ -1,5 +1,5 @@
 -- The loop over the orders of a bin: it starts at an order whose predecessor is inside, takes one order a turn, and ends behind the last order whose multiple is inside. Assumes nothing.
-use Rattle.std.proofs.Common.{◌≡◌, ℕ, zero, suc, ◌+◌, ◌-◌, ◌*◌, ◌<◌, ◌≤◌, List, length, sym, refl, ap, ◌∙◌, subst, le_trans, le_of_eq, lt_of_le_of_lt, add-zero, mul-le-mul_right, mul-le-mul_left, one-mul, mul-suc, mul-add, arith}
+use Rattle.std.proofs.Common.{◌≡◌, ℕ, zero, suc, ◌+◌, ◌-◌, ◌*◌, ◌<◌, ◌≤◌, List, length, sym, refl, ap, ◌∙◌, subst, le_trans, le_of_eq, lt_of_le_of_lt, add-zero, mul-le-mul_right, mul-le-mul_left, one-mul, arith}
 use lib.Ieee.{Float, binary64, add}
 use Rattle.laws.specs.Harmonics.{last_order}
 use Rattle.laws.specs.Literals.{zero64}
@@ -11,23 +11,10 @@ use Rattle.quality.specs.Powers.{magnitude_in, power_in, Inside, Summed, with_sq
 
 -- ---- the places that a bin below n reaches
 
--- the multiple is one bin past the one before
-pub multiple : (n b h : ℕ) → Inside n b h → b * h ≡ b * (h - 1) + b
-multiple n b h i = ap (λ (x : ℕ). b * x) (go h i.order) ∙ mul-suc b (h - 1)
-  where
-    go : (x : ℕ) → 1 ≤ x → x ≡ suc (x - 1)
-    go x l = omega arith
-
 pub order_le : (b h : ℕ) → 0 < b → h ≤ b * h
 order_le b h B = le_trans (le_of_eq (sym (one-mul h))) (mul-le-mul_right h B)
 
--- the multiple by the last of four orders, and the three before it
-pub fourth : (n b h : ℕ) → Inside n b h → b * (h + 3) ≡ b * (h - 1) + b * 4
-fourth n b h i = ap (λ (x : ℕ). b * x) (go h i.order) ∙ mul-add b (h - 1) 4
-  where
-    go : (x : ℕ) → 1 ≤ x → x + 3 ≡ x - 1 + 4
-    go x l = omega arith
-
+-- the four multiples from the order h on lie inside where the last of them does
 pub up_to_fourth : (n b h o : ℕ) → b * (h + 3) < n → o ≤ h + 3 → b * o < n
 up_to_fourth n b h o p l = lt_of_le_of_lt (mul-le-mul_left b l) p
 

@@ -1,6 +1,7 @@
 // Sums of squares, as far as they can be taken several places at a time.
-ghost use Rattle.std.specs.Prelude.{◌≡◌, ℕ, ◌+◌, ◌≤◌, true, false, length};
-ghost use Rattle.std.specs.Float.Ieee.{ne};
+ghost use Rattle.std.specs.Prelude.{◌≡◌, ℕ, ◌+◌, ◌≤◌, true, false, length, EachIndex, slice_index_or};
+ghost use Rattle.std.specs.Float.{nan};
+ghost use Rattle.std.specs.Float.Ieee.{eq, ne};
 ghost use Rattle.laws.specs.Samples.{numbers_in, square_of};
 ghost use Rattle.quality.specs.Powers.{Inside, Summed, squares_at_once, with_squares};
 
@@ -23,22 +24,10 @@ pub struct Tally {
 }
 
 // Whether all four are numbers: one test for four places, so that the loop over them has time to spare beside its sums.
-fn numbers(a: f32, b: f32, c: f32, d: f32) -> bool
-    ensures { result ≡ true → (ne a a ≡ false) × (ne b b ≡ false) × (ne c c ≡ false) × (ne d d ≡ false) }
+fn numbers(four: &[f32; 4]) -> bool
+    ensures { result ≡ true → EachIndex four.now (λ k. eq (slice_index_or four.now k nan) (slice_index_or four.now k nan) ≡ true) }
 {
-    if a != a {
-        return false;
-    }
-    if b != b {
-        return false;
-    }
-    if c != c {
-        return false;
-    }
-    if d != d {
-        return false;
-    }
-    true
+    four.iter().all(|&x| x == x)
 }
 
 // The square of a magnitude that is a number, so that widening it needs no choice.
@@ -93,23 +82,21 @@ pub fn power_of_fours(spectrum: &[f32], bin: usize, start: Tally) -> Tally
 {
     let mut sum = start.sum;
     let mut h = start.order;
-    loop {
-        // below five times the length, since the order before h was inside
-        let last = bin * (h + 3);
-        if last >= spectrum.len() {
+    // the last multiple is below five times the length, since the order before h was inside
+    while bin * (h + 3) < spectrum.len() {
+        let four = [
+            spectrum[bin * h],
+            spectrum[bin * (h + 1)],
+            spectrum[bin * (h + 2)],
+            spectrum[bin * (h + 3)],
+        ];
+        if !numbers(&four) {
             break;
         }
-        let a = spectrum[bin * h];
-        let b = spectrum[bin * (h + 1)];
-        let c = spectrum[bin * (h + 2)];
-        let d = spectrum[last];
-        if !numbers(a, b, c, d) {
-            break;
-        }
-        sum = sum + square_of_number(a);
-        sum = sum + square_of_number(b);
-        sum = sum + square_of_number(c);
-        sum = sum + square_of_number(d);
+        sum += square_of_number(four[0]);
+        sum += square_of_number(four[1]);
+        sum += square_of_number(four[2]);
+        sum += square_of_number(four[3]);
         h += 4;
     }
     Tally { sum, order: h }

@@ -4,8 +4,8 @@ use Rattle.std.proofs.Common.{ℕ, ◌-◌, length}
 use Rattle.quality.specs.Powers.{Inside, Summed}
 use Rattle.quality.proofs.squares.power_of_fours.Given as goal
 
-abbrev pub invariant-loop-last : goal.invariant-loop-last
-invariant-loop-last l = Inside (length l.spectrum) l.bin l.h × ((first : ℕ) → Summed l.spectrum l.bin first l.initial.sum l.initial.h → Summed l.spectrum l.bin first l.sum l.h)
+abbrev pub invariant-loop-h : goal.invariant-loop-h
+invariant-loop-h l = Inside (length l.spectrum) l.bin l.h × ((first : ℕ) → Summed l.spectrum l.bin first l.initial.sum l.initial.h → Summed l.spectrum l.bin first l.sum l.h)
 
-abbrev pub decreases-loop-last : goal.decreases-loop-last
-decreases-loop-last l = length l.spectrum - l.h
+abbrev pub decreases-loop-h : goal.decreases-loop-h
+decreases-loop-h l = length l.spectrum - l.h
