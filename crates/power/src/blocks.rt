@@ -84,6 +84,7 @@ pub fn sums_of_numbers(voltage: &[f32], current: &[f32]) -> Sums
         count: 0,
     };
     let mut k = 0;
+    // not over `chunks`: `product_from` counts from a place of the whole slices
     while k < voltage.len() {
         let count = (voltage.len() - k).min(32);
         products(voltage, current, k, count, &mut block);

@@ -42,7 +42,8 @@ fn rises(mean: f32, prev: f32, curr: f32) -> bool
     prev - mean < 0.0 && curr - mean >= 0.0
 }
 
-// How many rising crossings of this mean there are. (The places are found apart: so the compiler takes four samples at a time here.)
+// How many rising crossings of this mean there are. (The places are found apart: so the compiler takes four samples at a time here. By index, here and below:
+// `crossings_of` numbers the places, and over `windows(2)` each of these needs a contract of its own for the place before.)
 #[tactic(auto, unfolding(laws::specs::Walks::pairs, crate::specs::Timing::crossings_of))]
 fn count_crossings(samples: &[f32], mean: f32) -> u32
     requires { length samples.now ≤ longest }
@@ -129,6 +130,7 @@ fn next_above(samples: &[f32], w: f32, from: usize) -> usize
             return i;
         }
     }
+    // an empty slice ends before `from`
     samples.len().max(from)
 }
 
@@ -139,6 +141,7 @@ fn steepest(samples: &[f32], dt: f32) -> f32
 {
     let mut m: f32 = 0.0;
     let mut i = next_above(samples, 0.0, 1);
+    // no `for`: each search says where the next begins
     while i < samples.len() {
         let w = step(samples[i - 1], samples[i]);
         m = passes::parts::raised(m, w / dt);
