@@ -33,6 +33,7 @@ pub struct Sums {
 }
 
 // The power factor; 0 where s is at most 1e-12, or is not a number.
+#[tactic(auto, unfolding(laws::specs::Quotients::ratio_or_zero))]
 fn factor(p: f32, s: f32) -> f32
     ensures { result ≡ ratio_or_zero p s }
 {
@@ -40,6 +41,7 @@ fn factor(p: f32, s: f32) -> f32
 }
 
 // x where it is above 0, and 0 elsewhere, at a NaN too.
+#[tactic(auto, unfolding(crate::specs::Power::above_zero))]
 fn above_zero(x: f64) -> f64
     ensures { result ≡ above_zero x }
 {
@@ -47,6 +49,7 @@ fn above_zero(x: f64) -> f64
 }
 
 // Nonactive power: the root of s² - p².
+#[tactic(auto, unfolding(crate::specs::Power::nonactive_of))]
 fn nonactive(p: f32, s: f32) -> f32
     ensures { result ≡ nonactive_of p s }
 {
@@ -56,6 +59,7 @@ fn nonactive(p: f32, s: f32) -> f32
 }
 
 // The record of a capture with these sums.
+#[tactic(auto, unfolding(crate::specs::Power::record_of, crate::specs::Power::active_of, crate::specs::Power::apparent_of, crate::specs::Power::mean64))]
 pub fn of_sums(t: Sums) -> Power
     requires { t.count ≤ longest }
     ensures { result ≡ record_of t }
