@@ -1,5 +1,0 @@
--- What the proof of `samples::scale_run` counts with. Assumes nothing.
-use lib.Ieee.{Float, binary32, mul}
-
-abbrev pub one : Float → Float → Float
-one factor x = mul binary32 x factor
