@@ -1,5 +1,4 @@
 -- Laws that the proofs cite. Assumes nothing.
-mod Saturating
 pub mod Orders
 pub mod ByEdition
 mod Whole

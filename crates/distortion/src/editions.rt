@@ -3,14 +3,13 @@ ghost use Rattle.std.specs.Prelude.{◌≡◌};
 ghost use Rattle.distortion.specs.Editions.{highest_order};
 
 // The highest order of an edition; 0 of a number that is none.
+#[tactic(auto, unfolding(crate::specs::Editions::by_edition))]
 pub fn highest_order(edition: u8) -> usize
     ensures { result ≡ highest_order edition }
 {
-    if edition == 1 {
-        return 16;
+    match edition {
+        1 => 16,
+        2 => 40,
+        _ => 0,
     }
-    if edition == 2 {
-        return 40;
-    }
-    0
 }

@@ -15,8 +15,7 @@ fn last_order(top: usize, half: usize, bin: usize) -> usize
     requires bin_lt_half { bin < half }
     ensures { result ≡ last_up_to top half bin }
 {
-    let inside = (half - 1) / bin;
-    if top < inside { top } else { inside }
+    top.min((half - 1) / bin)
 }
 
 // One harmonic more.
@@ -36,13 +35,11 @@ fn harmonic_power(table: &[u32; 1025], samples: &[f32], bin: usize, last: usize)
     ensures { result ≡ harmonic_power (magnitude_of samples.now) bin 2 last }
 {
     let mut sum = 0.0;
-    let mut order: usize = 2;
-    while order <= last {
+    for order in 2..=last {
         sum = with_square(
             sum,
             spectrum::parts::bin_magnitude(table, samples, bin * order),
         );
-        order += 1;
     }
     sum
 }

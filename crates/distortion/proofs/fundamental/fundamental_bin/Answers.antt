@@ -10,4 +10,4 @@ int_to_float-rate c = omega (arith, le→leb)
 
 pub returns : goal.returns
 unfolding fundamental_bin
-returns c = rw (c.saturated.ensures, c.round32.ensures)
+returns c = rw (c.saturating_f32_to_usize.ensures, c.round32.ensures)
