@@ -9,4 +9,4 @@ unfolding spur_at
 loop-i-preserved c =
     let l = c.loop-i in
     let a = c.args in
-    (omega arith, c.spur-best.ensures ∙ pairs_next (spur_at a.bin) zero32 a.spectrum.now l.i l.auto.i l.invariant.1 refl refl)
+    (omega arith, c.spur-best.ensures ∙ pairs_next (spur_at a.bin) zero32 a.spectrum.now l.i (omega arith) l.invariant.1 refl refl)
