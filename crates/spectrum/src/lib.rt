@@ -22,10 +22,8 @@ fn fill(table: &[u32; 1025], samples: &[f32], output: &mut [f32])
     ensures { output.new ≡ bins samples.now output.old }
 {
     let half = samples.len() / 2;
-    let mut k: usize = 0;
-    while k < half {
+    for k in 0..half {
         output[k] = parts::first_halved(k, parts::bin_magnitude(table, samples, k));
-        k += 1;
     }
 }
 

@@ -67,14 +67,12 @@ pub fn bin_sums(table: &[u32; 1025], samples: &[f32], k: usize) -> Sums
     let by = k * (4096 / n);
     let mut sums = NO_SUMS;
     let mut angle: usize = 0;
-    let mut i: usize = 0;
-    while i < n {
-        let x = std::num::f32_to_f64_with_nan(samples[i]);
+    for sample in samples {
+        let x = std::num::f32_to_f64_with_nan(*sample);
         let cosine = quarter::parts::cosine(table, angle);
         let sine = quarter::parts::sine(table, angle);
         sums = turn(sums, x, cosine, sine);
         angle = (angle + by) % 4096;
-        i += 1;
     }
     sums
 }

@@ -17,10 +17,8 @@ pub fn fill_sines(table: &[u32; 1025], n: usize, scratch: &mut [f64])
     requires n_in_bounds { n ≤ length scratch.old }
     ensures { scratch.new ≡ filled (sine_at n) n scratch.old }
 {
-    let mut j: usize = 0;
-    while j < n {
+    for j in 0..n {
         scratch[j] = quarter::parts::sine(table, j * (4096 / n));
-        j += 1;
     }
 }
 
@@ -54,16 +52,14 @@ fn step(sines: &[f64], n: usize, b: Running, x: f64, k: usize) -> Running
     requires k_lt_n { k < n }
     ensures { result ≡ stepped n b x k }
 {
-    let sums = b.sums;
-    let at = b.at;
-    let ahead = around(n, at + n / 4);
+    let ahead = around(n, b.at + n / 4);
     Running {
-        sums: parts::turn(sums, x, sines[ahead], sines[at]),
-        at: around(n, at + k),
+        sums: parts::turn(b.sums, x, sines[ahead], sines[b.at]),
+        at: around(n, b.at + k),
     }
 }
 
-// The sums of four bins.
+// The sums of four bins: a field for each and no array, since `stored_four` of specs/Running.antt names them.
 #[derive(Clone, Copy)]
 pub struct Four {
     pub first: parts::Sums,
@@ -86,24 +82,18 @@ fn four_sums(sines: &[f64], samples: &[f32], k: usize) -> Four
     let mut second = START;
     let mut third = START;
     let mut fourth = START;
-    let mut i: usize = 0;
-    while i < n {
-        let x = std::num::f32_to_f64_with_nan(samples[i]);
+    for sample in samples {
+        let x = std::num::f32_to_f64_with_nan(*sample);
         first = step(sines, n, first, x, k);
         second = step(sines, n, second, x, k + 1);
         third = step(sines, n, third, x, k + 2);
         fourth = step(sines, n, fourth, x, k + 3);
-        i += 1;
     }
-    let a = first.sums;
-    let b = second.sums;
-    let c = third.sums;
-    let d = fourth.sums;
     Four {
-        first: a,
-        second: b,
-        third: c,
-        fourth: d,
+        first: first.sums,
+        second: second.sums,
+        third: third.sums,
+        fourth: fourth.sums,
     }
 }
 
