@@ -74,16 +74,14 @@ fn both_sums(table: &[u32; 1025], voltage: &[f32], current: &[f32], k: usize) ->
     let mut v = NO_SUMS;
     let mut i = NO_SUMS;
     let mut angle: usize = 0;
-    let mut j: usize = 0;
-    while j < n {
+    for (volt, amp) in voltage.iter().zip(current) {
         let cosine = quarter::parts::cosine(table, angle);
         let sine = quarter::parts::sine(table, angle);
-        let x = std::num::f32_to_f64_with_nan(voltage[j]);
-        let y = std::num::f32_to_f64_with_nan(current[j]);
+        let x = std::num::f32_to_f64_with_nan(*volt);
+        let y = std::num::f32_to_f64_with_nan(*amp);
         v = turn(v, x, cosine, sine);
         i = turn(i, y, cosine, sine);
         angle = (angle + by) % 4096;
-        j += 1;
     }
     Both {
         voltage: v,
@@ -120,9 +118,7 @@ fn of_bin(table: &[u32; 1025], voltage: &[f32], current: &[f32], k: usize) -> Fu
     ensures { result ≡ fundamental_of voltage.now current.now k }
 {
     let sums = both_sums(table, voltage, current, k);
-    let v = sums.voltage;
-    let i = sums.current;
-    figures(v, i, voltage.len())
+    figures(sums.voltage, sums.current, voltage.len())
 }
 
 // Refused with 3 where a slice is longer than LONGEST, then with 1 where the lengths differ, with 4 where the length is off the grid, and with 8 where the bin
