@@ -65,8 +65,7 @@ pub fn sample_at(s: Shape, n: usize, i: usize) -> f32
 {
     let length = counted(n);
     let place = counted(i);
-    let wave = s.wave;
-    match wave {
+    match s.wave {
         Wave::DC => s.amplitude,
         Wave::PWM => pwm_at(s, length, place),
         Wave::Triangular => triangular_at(s, length, place),
