@@ -41,7 +41,7 @@ fn narrow_fields(field: u64, digits: u64) -> u64
     }
     // the leading digit, and a carry, add to the exponent's field
     let r: u64 = ((field - 897) << 23) + nearest_shr(m, 29);
-    if r < 0x7f80_0000 { r } else { 0x7f80_0000 }
+    r.min(0x7f80_0000)
 }
 
 // x as an `f32`: the nearest one, a tie to the one whose last digit is even.
@@ -91,7 +91,7 @@ fn root_digits(m: u64, p: u64, j: u64) -> Digits
         let short: bool = y < t;
         y = y + y - select(short, 0, t + t);
         r = select(short, r, t + w);
-        w = w >> 1;
+        w >>= 1;
     }
     Digits {
         root: r >> (j + 1),
@@ -161,12 +161,10 @@ fn narrowed_of(m: u64, g: u64) -> u64
 {
     let field: u64 = ((g >> 1) - 896) << 23;
     let first = root_digits((m << (g & 1)) + 1, 53, 29);
-    let digits = first.root;
-    let rest = first.rest;
-    if rest <= 0x800_0000 {
-        return field + nearest_shr(digits, 1);
+    if first.rest <= 0x800_0000 {
+        return field + nearest_shr(first.root, 1);
     }
-    field + ((digits + 1) >> 1)
+    field + ((first.root + 1) >> 1)
 }
 
 // The square root of x as an `f64`, narrowed: `narrow(sqrt64(x))`, in less than half of its time.
@@ -179,13 +177,11 @@ pub fn sqrt64_narrowed(x: f64) -> f32
     let bits: u64 = f64::to_bits(x);
     let field: u64 = bits >> 52;
     // above zero, and with a root that is a normal `f32`
-    if 771 <= field {
-        if field <= 1278 {
-            return f32::from_bits(narrowed_of(
-                (bits & 0xf_ffff_ffff_ffff) | 0x10_0000_0000_0000,
-                field + 1021,
-            ) as u32);
-        }
+    if 771 <= field && field <= 1278 {
+        return f32::from_bits(narrowed_of(
+            (bits & 0xf_ffff_ffff_ffff) | 0x10_0000_0000_0000,
+            field + 1021,
+        ) as u32);
     }
     narrow(sqrt64(x))
 }

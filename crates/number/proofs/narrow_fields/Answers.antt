@@ -50,16 +50,8 @@ overflow_add-r c =
     let b = below t 29 (search rules) (omega arith) in
     omega arith
 
-pub returns-then-r-lt2139095040 : goal.returns-then-r-lt2139095040
-returns-then-r-lt2139095040 c =
+pub returns : goal.returns
+returns c =
     let F = c.args.field in
     let t = c.args.digits in
-    let q = c.nearest_shr-2.result in
-    let r = rounded t 29 q (search rules) c.nearest_shr-2.ensures in record { value = λ s. high_bits s F t (search rules) (search rules) (search rules) c.requires.no_nan ∙ ap (λ (x : ℕ). cond s (2 ^ 31) 0 + min ((F - 897) * 2 ^ 23 + x) (255 * 2 ^ 23)) (sym r) ∙ ap (λ (x : ℕ). cond s (2 ^ 31) 0 + x) (omega arith); below_sign = omega arith }
-
-pub returns-else-r-lt2139095040 : goal.returns-else-r-lt2139095040
-returns-else-r-lt2139095040 c =
-    let F = c.args.field in
-    let t = c.args.digits in
-    let q = c.nearest_shr-2.result in
-    let r = rounded t 29 q (search rules) c.nearest_shr-2.ensures in record { value = λ s. high_bits s F t (search rules) (search rules) (search rules) c.requires.no_nan ∙ ap (λ (x : ℕ). cond s (2 ^ 31) 0 + min ((F - 897) * 2 ^ 23 + x) (255 * 2 ^ 23)) (sym r) ∙ ap (λ (x : ℕ). cond s (2 ^ 31) 0 + x) (omega arith); below_sign = omega arith }
+    let r = rounded t 29 c.nearest_shr-2.result (search rules) c.nearest_shr-2.ensures in record { value = λ s. high_bits s F t (search rules) (search rules) (search rules) c.requires.no_nan ∙ ap (λ (x : ℕ). cond s (2 ^ 31) 0 + min ((F - 897) * 2 ^ 23 + x) (255 * 2 ^ 23)) (sym r) ∙ ap (λ (x : ℕ). cond s (2 ^ 31) 0 + x) (omega arith); below_sign = omega arith }

@@ -65,15 +65,15 @@ overflow_add-result c =
     let b = closest_le c.root_digits-first.result.root 1 24 (here c.args.m c.args.g _ _ c.requires.m_low c.requires.m_bound c.root_digits-first.ensures.rest_value c.root_digits-first.ensures.rest_bound).1.below in
     omega (arith, c.nearest_shr.ensures)
 
-pub returns-then-rest-le134217728 : goal.returns-then-rest-le134217728
-returns-then-rest-le134217728 c =
+pub returns-then-first-le134217728 : goal.returns-then-first-le134217728
+returns-then-first-le134217728 c =
     let m = c.args.m in
     let g = c.args.g in
     let h = here c.args.m c.args.g _ _ c.requires.m_low c.requires.m_bound c.root_digits-first.ensures.rest_value c.root_digits-first.ensures.rest_bound in
     let e = Rest m g c.root_digits-first.result.root in
     let N = Digits m g * 2 ^ 54 in
     ap₂ (λ (x y : ℕ). x + y) (field_is g (search rules)) (c.nearest_shr.ensures
-    ∙ even_half (Digits m g) c.root_digits-first.result.root e (whole_root N) h.1 (whole_root_is N) (few _ e h.0 c.if-rest-le134217728.true))
+    ∙ even_half (Digits m g) c.root_digits-first.result.root e (whole_root N) h.1 (whole_root_is N) (few _ e h.0 c.if-first-le134217728.true))
 
 pub overflow_add-result-2 : goal.overflow_add-result-2
 overflow_add-result-2 c = let b = (here c.args.m c.args.g _ _ c.requires.m_low c.requires.m_bound c.root_digits-first.ensures.rest_value c.root_digits-first.ensures.rest_bound).1.below in omega arith
@@ -85,4 +85,4 @@ returns c =
     let h = here c.args.m c.args.g _ _ c.requires.m_low c.requires.m_bound c.root_digits-first.ensures.rest_value c.root_digits-first.ensures.rest_bound in
     let e = Rest m g c.root_digits-first.result.root in
     let N = Digits m g * 2 ^ 54 in
-    ap₂ (λ (x y : ℕ). x + y) (field_is g (search rules)) (upper_half (Digits m g) c.root_digits-first.result.root e (whole_root N) h.1 (whole_root_is N) (more _ e h.0 c.if-rest-le134217728.false))
+    ap₂ (λ (x y : ℕ). x + y) (field_is g (search rules)) (upper_half (Digits m g) c.root_digits-first.result.root e (whole_root N) h.1 (whole_root_is N) (more _ e h.0 c.if-first-le134217728.false))
