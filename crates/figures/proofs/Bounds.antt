@@ -68,3 +68,9 @@ module _ (low high : Float) (xs : List Float) where
   edges_le =
       let w = within (length xs - 1) in
       record { rise = omega (arith, w.rise); fall = omega (arith, w.fall) }
+
+  pub rise_le : (edges_of low high xs).rise ≤ length xs
+  rise_le = edges_le.rise
+
+  pub fall_le : (edges_of low high xs).fall ≤ length xs
+  fall_le = edges_le.fall

@@ -6,7 +6,7 @@ ghost use Rattle.figures.specs.Edges.{rise_begins, rise_counts, fall_begins, fal
 use number::parts::counted;
 
 // Which edge is under way (0 none, RISE or FALL), and how many samples the last of each kind has so far.
-// (A number and no bools: a struct with padding, by value in a loop, is copied through the stack at each turn.)
+// (A number, as `edge_at` of specs/Edges.antt has it, and no bools: a struct with padding, by value in a loop, is copied through the stack at each turn.)
 #[derive(Clone, Copy, Drop)]
 pub struct Edges {
     pub edge: usize,
@@ -19,6 +19,7 @@ const RISE: usize = 1;
 const FALL: usize = 2;
 
 // The first test of a sample: whether a rise begins with it.
+#[tactic(auto, unfolding(crate::specs::Edges::rise_begins))]
 fn rise_begins(low: f32, s: Edges, prev: f32, curr: f32) -> Edges
     ensures { result ≡ rise_begins low s prev curr }
 {
@@ -34,6 +35,7 @@ fn rise_begins(low: f32, s: Edges, prev: f32, curr: f32) -> Edges
 }
 
 // The second: whether it belongs to the rise under way.
+#[tactic(auto, unfolding(crate::specs::Edges::rise_counts))]
 fn rise_counts(high: f32, s: Edges, curr: f32) -> Edges
     requires { s.rise < longest }
     ensures { result ≡ rise_counts high s curr }
@@ -50,6 +52,7 @@ fn rise_counts(high: f32, s: Edges, curr: f32) -> Edges
 }
 
 // The third: whether a fall begins with it.
+#[tactic(auto, unfolding(crate::specs::Edges::fall_begins))]
 fn fall_begins(high: f32, s: Edges, prev: f32, curr: f32) -> Edges
     ensures { result ≡ fall_begins high s prev curr }
 {
@@ -65,6 +68,7 @@ fn fall_begins(high: f32, s: Edges, prev: f32, curr: f32) -> Edges
 }
 
 // The fourth: whether it belongs to the fall under way.
+#[tactic(auto, unfolding(crate::specs::Edges::fall_counts))]
 fn fall_counts(low: f32, s: Edges, curr: f32) -> Edges
     requires { s.fall < longest }
     ensures { result ≡ fall_counts low s curr }
@@ -92,6 +96,7 @@ fn edge_at(low: f32, high: f32, s: Edges, prev: f32, curr: f32) -> Edges
 }
 
 // All samples but the first, each with the one before it.
+#[tactic(auto, unfolding(laws::specs::Walks::pairs, crate::specs::Edges::edges_of))]
 fn find_edges(samples: &[f32], low: f32, high: f32) -> Edges
     requires { length samples.now ≤ longest }
     ensures { result ≡ edges_of low high samples.now }
@@ -101,15 +106,14 @@ fn find_edges(samples: &[f32], low: f32, high: f32) -> Edges
         rise: 0,
         fall: 0,
     };
-    let mut i = 1usize;
-    while i < samples.len() {
+    for i in 1..samples.len() {
         s = edge_at(low, high, s, samples[i - 1], samples[i]);
-        i += 1;
     }
     s
 }
 
 // The time from one of n samples to the next.
+#[tactic(auto, unfolding(crate::specs::Edges::sample_time_of))]
 fn sample_time(frequency: f32, n: usize) -> f32
     requires { n ≤ longest }
     ensures { result ≡ sample_time_of frequency n }
@@ -130,6 +134,7 @@ pub struct Times {
 }
 
 // With the thresholds a tenth and nine tenths of the swing above the minimum.
+#[tactic(auto, using(crate::proofs::Bounds::rise_le, crate::proofs::Bounds::fall_le), unfolding(crate::specs::Edges::times_of))]
 pub fn times_of(samples: &[f32], min: f32, swing: f32, frequency: f32) -> Times
     requires { length samples.now ≤ longest }
     ensures { result ≡ times_of (edges_between min swing samples.now) frequency (length samples.now) }

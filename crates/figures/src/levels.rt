@@ -16,22 +16,18 @@ pub struct Extremes {
 }
 
 // The next place from here on with a sample beyond the extremes, or the end. (A search: no sample waits for the one before it.)
+#[tactic(auto, using(laws::proofs::Turn::over_next), unfolding(laws::specs::Samples::higher, laws::specs::Samples::lower))]
 fn next_extreme(samples: &[f32], max: f32, min: f32, from: usize) -> usize
     requires { (from ≤ length samples.now) × (max ≡ over higher (inf true) samples.now from) × (min ≡ over lower (inf false) samples.now from) }
     ensures { (from ≤ result) × (result ≤ length samples.now) × (max ≡ over higher (inf true) samples.now result) × (min ≡ over lower (inf false) samples.now result) }
 {
-    let mut k = from;
-    while k < samples.len() {
+    for k in from..samples.len() {
         let x = samples[k];
-        if max < x {
+        if max < x || x < min {
             return k;
         }
-        if x < min {
-            return k;
-        }
-        k += 1;
     }
-    k
+    samples.len()
 }
 
 // From minus infinity and infinity: a NaN is no extreme.
@@ -64,9 +60,8 @@ fn sum_up(samples: &[f32]) -> Sums
     let mut total: f64 = 0.0;
     let mut squares: f64 = 0.0;
     let mut sizes: f64 = 0.0;
-    let mut k = 0usize;
-    while k < samples.len() {
-        let sample = samples[k];
+    for sample in samples {
+        let sample = *sample;
         if sample != sample {
             return Sums {
                 total: 0.0 / 0.0,
@@ -75,11 +70,10 @@ fn sum_up(samples: &[f32]) -> Sums
             };
         }
         let x = sample as f64;
-        total = total + x;
-        squares = squares + x * x;
+        total += x;
+        squares += x * x;
         let size = number::abs32(sample);
-        sizes = sizes + size as f64;
-        k += 1;
+        sizes += size as f64;
     }
     Sums {
         total,
@@ -93,15 +87,13 @@ fn ripple(samples: &[f32], average: f32) -> f64
     ensures { result ≡ ripple_of average samples.now }
 {
     let mut squares: f64 = 0.0;
-    let mut k = 0usize;
-    while k < samples.len() {
-        let away = samples[k] - average;
+    for sample in samples {
+        let away = *sample - average;
         if away != away {
             return 0.0 / 0.0;
         }
         let x = away as f64;
-        squares = squares + x * x;
-        k += 1;
+        squares += x * x;
     }
     squares
 }
@@ -129,7 +121,7 @@ pub fn levels_of(samples: &[f32]) -> Levels
     Levels {
         max: extreme.max,
         min: extreme.min,
-        average: average,
+        average,
         dc_rms: number::sqrt32(mean(sums.squares, n)),
         ac_rms: number::sqrt32(mean(spread, n)),
         rectified: mean(sums.sizes, n),

@@ -117,7 +117,7 @@ fn done(figures: TimeFigures) -> TimeAnswer
 {
     TimeAnswer {
         outcome: Outcome::Done,
-        figures: figures,
+        figures,
     }
 }
 

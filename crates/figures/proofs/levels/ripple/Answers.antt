@@ -13,33 +13,33 @@ use Rattle.figures.specs.Levels.{adding, sum_of, away}
 use Rattle.figures.proofs.NanSums.{nan_sum}
 use Rattle.figures.proofs.levels.ripple.Goals as goal
 
-pub loop-k-init : goal.loop-k-init
+pub loop-sample-init : goal.loop-sample-init
 unfolding over
-loop-k-init c = (omega arith, refl)
+loop-sample-init c = refl
 
 pub returns-then-away : goal.returns-then-away
 unfolding square_of mul div of_bits
 returns-then-away c =
-    let l = c.loop-k in
+    let l = c.loop-sample in
     let a = c.args in
-    sym (nan_sum (away a.average) a.samples.now l.k (ap square_of (is_nan_lem _ c.if-away.true)) (omega arith))
+    sym (nan_sum (away a.average) a.samples.now l.sample-index (ap square_of (is_nan_lem _ c.if-away.true)) (omega arith))
 
 pub float_to_float-x : goal.float_to_float-x
 float_to_float-x c =
     let a = c.args in
-    let x = sub binary32 (get_or a.samples.now c.loop-k.k nan) a.average in
+    let x = sub binary32 (get_or a.samples.now c.loop-sample.sample-index nan) a.average in
     and_i (fits binary64 x) (not (is_nan x)) (fits_widens x c.row_known-1.given) (no_nan x c.if-away.false)
 
-pub loop-k-preserved : goal.loop-k-preserved
+pub loop-sample-preserved : goal.loop-sample-preserved
 unfolding square_of
-loop-k-preserved c =
-    let l = c.loop-k in
+loop-sample-preserved c =
+    let l = c.loop-sample in
     let a = c.args in
-    (omega arith, over_next (adding (away a.average)) zero64 a.samples.now l.k l.invariant.1 refl)
+    over_next (adding (away a.average)) zero64 a.samples.now l.sample-index l.invariant refl
 
 pub returns : goal.returns
 unfolding sum_of
 returns c =
-    let l = c.loop-k in
-    let e : l.k ≡ length c.args.samples.now = omega arith in
-    rw (l.invariant.1, e)
+    let l = c.loop-sample in
+    let e : l.sample-index ≡ length c.args.samples.now = omega arith in
+    rw (l.invariant, e)

@@ -16,44 +16,44 @@ use Rattle.figures.specs.Levels.{adding, sum_of}
 use Rattle.figures.proofs.NanSums.{nan_sum, size_number}
 use Rattle.figures.proofs.levels.sum_up.Goals as goal
 
-pub loop-k-init : goal.loop-k-init
+pub loop-sample-init : goal.loop-sample-init
 unfolding over
-loop-k-init c = (omega arith, refl, refl, refl)
+loop-sample-init c = record { total = refl; squares = refl; sizes = refl }
 
 pub returns-then-sample : goal.returns-then-sample
 unfolding total_of sum_of square_of mul div abs of_bits
 returns-then-sample c =
-    let k = c.loop-k.k in
+    let k = c.loop-sample.sample-index in
     let xs = c.args.samples.now in
     let met : (f : Float → Float) → f nan ≡ nan → sum_of f xs ≡ nan = λ f h. nan_sum f xs k (ap f (is_nan_lem _ c.if-sample.true) ∙ h) (omega arith) in
     rw (met (λ (x : Float). x) refl, met square_of refl, met abs refl)
 
 pub float_to_float-x : goal.float_to_float-x
 float_to_float-x c =
-    let x = get_or c.args.samples.now c.loop-k.k nan in
+    let x = get_or c.args.samples.now c.loop-sample.sample-index nan in
     and_i (fits binary64 x) (not (is_nan x)) (fits_widens x c.row_known-1.given) (no_nan x c.if-sample.false)
 
 pub float_to_float-sizes : goal.float_to_float-sizes
 float_to_float-sizes c =
-    let x = get_or c.args.samples.now c.loop-k.k nan in
+    let x = get_or c.args.samples.now c.loop-sample.sample-index nan in
     let y = c.abs32-size.result in
-    and_i (fits binary64 y) (not (is_nan y)) (fits_widens y c.row_known-in-loop-k-1.given)
+    and_i (fits binary64 y) (not (is_nan y)) (fits_widens y c.row_known-in-loop-sample-1.given)
     (subst (λ (z : Float). T (not (is_nan z))) (sym c.abs32-size.ensures) (size_number x (no_nan x c.if-sample.false)))
 
-pub loop-k-preserved : goal.loop-k-preserved
+pub loop-sample-preserved : goal.loop-sample-preserved
 unfolding square_of
-loop-k-preserved c =
-    let l = c.loop-k in
-    let xs = c.args.samples.now in (
-      omega arith,
-      over_next (add binary64) zero64 xs l.k l.invariant.1 refl,
-      over_next (adding square_of) zero64 xs l.k l.invariant.2 refl,
-      rw c.abs32-size.ensures (over_next (adding abs) zero64 xs l.k l.invariant.3 refl),
-    )
+loop-sample-preserved c =
+    let l = c.loop-sample in
+    let xs = c.args.samples.now in
+    record {
+      total = over_next (add binary64) zero64 xs l.sample-index l.invariant.total refl;
+      squares = over_next (adding square_of) zero64 xs l.sample-index l.invariant.squares refl;
+      sizes = rw c.abs32-size.ensures (over_next (adding abs) zero64 xs l.sample-index l.invariant.sizes refl);
+    }
 
 pub returns : goal.returns
 unfolding total_of sum_of
 returns c =
-    let l = c.loop-k in
-    let e : l.k ≡ length c.args.samples.now = omega arith in
-    rw (l.invariant.1, l.invariant.2, l.invariant.3, e)
+    let l = c.loop-sample in
+    let e : l.sample-index ≡ length c.args.samples.now = omega arith in
+    rw (l.invariant.total, l.invariant.squares, l.invariant.sizes, e)
