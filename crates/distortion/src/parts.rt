@@ -14,7 +14,7 @@ pub fn thd(samples: &[f32], frequency: f32, top: usize, earlier: f32) -> f32
     let n = samples.len();
     let bin = fundamental::fundamental_bin(frequency, n);
     if fundamental::usable(frequency, n / 2, bin) {
-        return harmonics::thd_at(&quarter::entries::QUARTER, samples, bin, top, earlier);
+        return harmonics::thd_at(samples, bin, top, earlier);
     }
     earlier
 }

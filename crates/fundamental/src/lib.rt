@@ -3,7 +3,6 @@
 #![tactic(auto)]
 
 ghost use Rattle.std.specs.Prelude.{◌≡◌, ◌<◌, ◌≤◌, true, length};
-ghost use Rattle.quarter.specs.Table.{quarter_table};
 ghost use Rattle.spectrum.specs.Grid.{on_grid};
 ghost use Rattle.spectrum.specs.Bin.{sums_of};
 ghost use Rattle.fundamental.specs.Fundamental.{scaled_of, fundamental_figures, fundamental_of, fundamental_outcome, fundamental_answer};
@@ -62,8 +61,7 @@ pub struct Both {
 }
 
 // The sums of bin k of both captures in one walk: each sine and cosine is read once, and each capture's sums are its own, in index order.
-fn both_sums(table: &[u32; 1025], voltage: &[f32], current: &[f32], k: usize) -> Both
-    requires table_value { table.now ≡ quarter_table }
+fn both_sums(voltage: &[f32], current: &[f32], k: usize) -> Both
     requires voltage_value { on_grid (length voltage.now) ≡ true }
     requires voltage_len { length voltage.now ≡ length current.now }
     requires k_in_bounds { k < length voltage.now }
@@ -75,8 +73,8 @@ fn both_sums(table: &[u32; 1025], voltage: &[f32], current: &[f32], k: usize) ->
     let mut i = NO_SUMS;
     let mut angle: usize = 0;
     for (volt, amp) in voltage.iter().zip(current) {
-        let cosine = quarter::parts::cosine(table, angle);
-        let sine = quarter::parts::sine(table, angle);
+        let cosine = quarter::parts::cosine(angle);
+        let sine = quarter::parts::sine(angle);
         let x = std::num::f32_to_f64_with_nan(*volt);
         let y = std::num::f32_to_f64_with_nan(*amp);
         v = turn(v, x, cosine, sine);
@@ -110,14 +108,13 @@ fn figures(v: Sums, i: Sums, n: usize) -> FundamentalPower
 }
 
 // The two figures of bin k.
-fn of_bin(table: &[u32; 1025], voltage: &[f32], current: &[f32], k: usize) -> FundamentalPower
-    requires table_value { table.now ≡ quarter_table }
+fn of_bin(voltage: &[f32], current: &[f32], k: usize) -> FundamentalPower
     requires voltage_value { on_grid (length voltage.now) ≡ true }
     requires voltage_len { length voltage.now ≡ length current.now }
     requires k_in_bounds { k < length voltage.now }
     ensures { result ≡ fundamental_of voltage.now current.now k }
 {
-    let sums = both_sums(table, voltage, current, k);
+    let sums = both_sums(voltage, current, k);
     figures(sums.voltage, sums.current, voltage.len())
 }
 
@@ -135,6 +132,6 @@ pub fn fundamental_power(voltage: &[f32], current: &[f32], bin: usize) -> Fundam
     }
     FundamentalAnswer {
         outcome,
-        power: of_bin(&quarter::entries::QUARTER, voltage, current, bin),
+        power: of_bin(voltage, current, bin),
     }
 }

@@ -1,6 +1,5 @@
 // The quarter wave: 2^30 times the sine of j/4096 of a turn, to the nearest whole number, for j from 0 to 1024.
-// A mention of the constant copies all of it, so a public call names it once and hands it on by reference.
-pub const QUARTER: [u32; 1025] = [
+pub static QUARTER: [u32; 1025] = [
     0, 1647099, 3294193, 4941281, 6588356, 8235416, 9882456, 11529474, 13176464, 14823423,
     16470347, 18117233, 19764076, 21410872, 23057618, 24704310, 26350943, 27997515, 29644021,
     31290457, 32936819, 34583104, 36229307, 37875426, 39521455, 41167391, 42813230, 44458968,

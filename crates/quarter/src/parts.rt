@@ -1,6 +1,5 @@
 // The sine and cosine of each step of 1/4096 turn, from the table of the first quarter.
 ghost use Rattle.std.specs.Prelude.{◌≡◌, ◌<◌, ◌≤◌};
-ghost use Rattle.quarter.specs.Table.{quarter_table};
 ghost use Rattle.quarter.specs.Wave.{t};
 ghost use Rattle.quarter.specs.Turn.{fraction, folded, sine_of, cosine_of};
 
@@ -15,12 +14,11 @@ pub fn entry(j: usize) -> u32
 }
 
 // t(j) / 2^30, which an f64 holds exactly: the factor is 2^-30.
-fn fraction_at(table: &[u32; 1025], j: usize) -> f64
-    requires table_value { table.now ≡ quarter_table }
-    requires j_bound { j ≤ 1024 }
+fn fraction_at(j: usize) -> f64
+    requires { j ≤ 1024 }
     ensures { result ≡ fraction (t j) }
 {
-    table[j] as f64 * 0.000000000931322574615478515625
+    f64::from(entry(j)) * 0.000000000931322574615478515625
 }
 
 // The quarter's place for a step of the half turn.
@@ -32,20 +30,18 @@ fn fold(h: usize) -> usize
 }
 
 // The sine of step/4096 of a turn.
-pub fn sine(table: &[u32; 1025], step: usize) -> f64
-    requires table_value { table.now ≡ quarter_table }
-    requires step_bound { step < 4096 }
+pub fn sine(step: usize) -> f64
+    requires { step < 4096 }
     ensures { result ≡ sine_of step }
 {
-    let v = fraction_at(table, fold(step % 2048));
+    let v = fraction_at(fold(step % 2048));
     if step < 2048 { v } else { -v }
 }
 
 // The cosine of step/4096 of a turn.
-pub fn cosine(table: &[u32; 1025], step: usize) -> f64
-    requires table_value { table.now ≡ quarter_table }
-    requires step_bound { step < 4096 }
+pub fn cosine(step: usize) -> f64
+    requires { step < 4096 }
     ensures { result ≡ cosine_of step }
 {
-    sine(table, (step + 1024) % 4096)
+    sine((step + 1024) % 4096)
 }

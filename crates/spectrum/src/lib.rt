@@ -4,7 +4,6 @@
 ghost use Rattle.std.specs.Prelude.{◌≡◌, ◌/◌, ◌≤◌, true, length};
 ghost use Rattle.answers.specs.Left.{left};
 ghost use Rattle.laws.specs.Filled.{filled};
-ghost use Rattle.quarter.specs.Table.{quarter_table};
 ghost use Rattle.spectrum.specs.Grid.{on_grid};
 ghost use Rattle.spectrum.specs.Spectrum.{bins, spectrum_of};
 ghost use Rattle.spectrum.specs.Sines.{sine_at, spectrum_in};
@@ -15,15 +14,14 @@ pub mod parts;
 mod several;
 
 // The bins below half the length, one after the other.
-fn fill(table: &[u32; 1025], samples: &[f32], output: &mut [f32])
-    requires table_value { table.now ≡ quarter_table }
+fn fill(samples: &[f32], output: &mut [f32])
     requires samples_value { on_grid (length samples.now) ≡ true }
     requires samples_in_bounds { length samples.now / 2 ≤ length output.old }
     ensures { output.new ≡ bins samples.now output.old }
 {
     let half = samples.len() / 2;
     for k in 0..half {
-        output[k] = parts::first_halved(k, parts::bin_magnitude(table, samples, k));
+        output[k] = parts::first_halved(k, parts::bin_magnitude(samples, k));
     }
 }
 
@@ -36,22 +34,21 @@ pub fn dft_magnitude_spectrum(samples: &[f32], output: &mut [f32]) -> Outcome
     if answers::number_of(outcome) != 0 {
         return outcome;
     }
-    fill(&quarter::entries::QUARTER, samples, output);
+    fill(samples, output);
     outcome
 }
 
 // The sines into the scratch, and then the bins: four at a time where there are as many.
-fn fill_in(table: &[u32; 1025], samples: &[f32], scratch: &mut [f64], output: &mut [f32])
-    requires table_value { table.now ≡ quarter_table }
+fn fill_in(samples: &[f32], scratch: &mut [f64], output: &mut [f32])
     requires samples_value { on_grid (length samples.now) ≡ true }
     requires samples_in_bounds { length samples.now ≤ length scratch.old }
     requires samples_in_bounds_2 { length samples.now / 2 ≤ length output.old }
     ensures scratch_after { scratch.new ≡ filled (sine_at (length samples.now)) (length samples.now) scratch.old }
     ensures output_after { output.new ≡ bins samples.now output.old }
 {
-    several::fill_sines(table, samples.len(), scratch);
+    several::fill_sines(samples.len(), scratch);
     if samples.len() < 8 {
-        fill(table, samples, output);
+        fill(samples, output);
     } else {
         several::fill_by_four(scratch, samples, output);
     }
@@ -71,6 +68,6 @@ pub fn dft_magnitude_spectrum_in(
     if answers::number_of(outcome) != 0 {
         return outcome;
     }
-    fill_in(&quarter::entries::QUARTER, samples, scratch, output);
+    fill_in(samples, scratch, output);
     outcome
 }

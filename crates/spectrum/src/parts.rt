@@ -1,6 +1,5 @@
-// The grid of lengths, which lengths are refused, and one bin of the spectrum, for the spectrum itself and for whoever needs single bins. The table is named by the caller, once, and lent.
+// The grid of lengths, which lengths are refused, and one bin of the spectrum, for the spectrum itself and for whoever needs single bins.
 ghost use Rattle.std.specs.Prelude.{◌≡◌, ◌<◌, ◌≤◌, true, length};
-ghost use Rattle.quarter.specs.Table.{quarter_table};
 ghost use Rattle.spectrum.specs.Grid.{on_grid};
 ghost use Rattle.spectrum.specs.Bin.{turned, sums_of, size_of, magnitude_of};
 ghost use Rattle.spectrum.specs.Spectrum.{halved, outcome_of};
@@ -57,8 +56,7 @@ pub fn turn(s: Sums, x: f64, cosine: f64, sine: f64) -> Sums
 }
 
 // The sums of bin k. The angle goes on by k * 4096 / n steps a sample, around the turn.
-pub fn bin_sums(table: &[u32; 1025], samples: &[f32], k: usize) -> Sums
-    requires table_value { table.now ≡ quarter_table }
+pub fn bin_sums(samples: &[f32], k: usize) -> Sums
     requires samples_value { on_grid (length samples.now) ≡ true }
     requires k_in_bounds { k < length samples.now }
     ensures { result ≡ sums_of samples.now k }
@@ -69,8 +67,8 @@ pub fn bin_sums(table: &[u32; 1025], samples: &[f32], k: usize) -> Sums
     let mut angle: usize = 0;
     for sample in samples {
         let x = std::num::f32_to_f64_with_nan(*sample);
-        let cosine = quarter::parts::cosine(table, angle);
-        let sine = quarter::parts::sine(table, angle);
+        let cosine = quarter::parts::cosine(angle);
+        let sine = quarter::parts::sine(angle);
         sums = turn(sums, x, cosine, sine);
         angle = (angle + by) % 4096;
     }
@@ -86,13 +84,12 @@ pub fn size(s: Sums, n: usize) -> f32
 }
 
 // The magnitude of bin k; bin 0 is not halved here.
-pub fn bin_magnitude(table: &[u32; 1025], samples: &[f32], k: usize) -> f32
-    requires table_value { table.now ≡ quarter_table }
+pub fn bin_magnitude(samples: &[f32], k: usize) -> f32
     requires samples_value { on_grid (length samples.now) ≡ true }
     requires k_in_bounds { k < length samples.now }
     ensures { result ≡ magnitude_of samples.now k }
 {
-    let sums = bin_sums(table, samples, k);
+    let sums = bin_sums(samples, k);
     size(sums, samples.len())
 }
 

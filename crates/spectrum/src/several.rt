@@ -1,7 +1,6 @@
 // Four bins in one walk over the samples. Each has its own sums, in index order; the sines stand in the lent scratch.
 ghost use Rattle.std.specs.Prelude.{◌≡◌, ◌+◌, ◌/◌, ◌%◌, ◌<◌, ◌≤◌, true, length};
 ghost use Rattle.laws.specs.Filled.{filled};
-ghost use Rattle.quarter.specs.Table.{quarter_table};
 ghost use Rattle.spectrum.specs.Grid.{on_grid};
 ghost use Rattle.spectrum.specs.Bin.{sums_of};
 ghost use Rattle.spectrum.specs.Spectrum.{bins};
@@ -11,14 +10,13 @@ ghost use Rattle.spectrum.specs.Running.{stepped, stored, stored_four};
 use crate::parts;
 
 // The sine of each of the n places around the turn, in its place.
-pub fn fill_sines(table: &[u32; 1025], n: usize, scratch: &mut [f64])
-    requires table_value { table.now ≡ quarter_table }
+pub fn fill_sines(n: usize, scratch: &mut [f64])
     requires n_value { on_grid n ≡ true }
     requires n_in_bounds { n ≤ length scratch.old }
     ensures { scratch.new ≡ filled (sine_at n) n scratch.old }
 {
     for j in 0..n {
-        scratch[j] = quarter::parts::sine(table, j * (4096 / n));
+        scratch[j] = quarter::parts::sine(j * (4096 / n));
     }
 }
 

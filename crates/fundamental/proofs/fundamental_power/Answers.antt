@@ -14,7 +14,7 @@ unfolding quarter_table
 of_bin-requires c =
     let met = unrefused _ _ _ _ _ c.judged-outcome.ensures c.number_of.ensures c.if-number_of-ne0.false in
     let below = met.below_half in
-    record { table_value = refl; voltage_value = met.grid; voltage_len = met.equal; k_in_bounds = omega arith }
+    record { voltage_value = met.grid; voltage_len = met.equal; k_in_bounds = omega arith }
 
 pub returns : goal.returns
 returns c =

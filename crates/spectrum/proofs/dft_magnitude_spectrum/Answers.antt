@@ -13,7 +13,7 @@ pub fill-requires : goal.fill-requires
 unfolding quarter_table
 fill-requires c =
     let clear = none_holds _ _ _ _ c.judged-outcome.ensures c.number_of.ensures c.if-number_of-ne0.false in
-    record { table_value = refl; samples_value = clear.0; samples_in_bounds = ltb-false _ _ clear.1 }
+    record { samples_value = clear.0; samples_in_bounds = ltb-false _ _ clear.1 }
 
 pub returns : goal.returns
 returns c =

@@ -14,7 +14,7 @@ unfolding quarter_table
 fill_in-requires c =
     let clear = none_holds _ _ _ _ c.judged-outcome.ensures c.number_of.ensures c.if-number_of-ne0.false in
     let rooms = room_for_both c.args.samples.now c.args.scratch.now c.args.output.now clear.1 in
-    record { table_value = refl; samples_value = clear.0; samples_in_bounds = rooms.0; samples_in_bounds_2 = rooms.1 }
+    record { samples_value = clear.0; samples_in_bounds = rooms.0; samples_in_bounds_2 = rooms.1 }
 
 pub returns : goal.returns
 returns c =

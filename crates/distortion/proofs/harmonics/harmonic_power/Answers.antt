@@ -14,7 +14,7 @@ overflow_mul-bin c =
     (below_length c.args.bin c.loop-order.order c.args.last _ (omega arith) c.requires.last_in_bounds (omega arith)).0
 
 pub bin_magnitude-requires : goal.bin_magnitude-requires
-bin_magnitude-requires c = record { table_value = c.requires.table_value; samples_value = c.requires.samples_value; k_in_bounds = (below_length c.args.bin c.loop-order.order c.args.last _ (omega arith) c.requires.last_in_bounds (omega arith)).1 }
+bin_magnitude-requires c = record { samples_value = c.requires.samples_value; k_in_bounds = (below_length c.args.bin c.loop-order.order c.args.last _ (omega arith) c.requires.last_in_bounds (omega arith)).1 }
 
 pub loop-order-preserved : goal.loop-order-preserved
 loop-order-preserved c = (omega arith, c.with_square-sum.ensures ∙ one_more_lem _ _ 2 c.loop-order.order (omega arith) c.loop-order.invariant.1 c.bin_magnitude.ensures)

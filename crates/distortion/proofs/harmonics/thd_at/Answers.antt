@@ -8,7 +8,7 @@ pub harmonic_power-power-requires : goal.harmonic_power-power-requires
 harmonic_power-power-requires c =
     let room = c.requires.bin_nonzero in
     let fits = last_fits _ _ _ _ _ c.last_order-last.ensures room.0 room.1 (omega arith) c.requires.le_top.0 c.requires.le_top.1 in
-    record { table_value = c.requires.table_value; samples_value = c.requires.samples_value; last_in_bounds = fits.0; le_last = fits.1 }
+    record { samples_value = c.requires.samples_value; last_in_bounds = fits.0; le_last = fits.1 }
 
 pub returns-then-fundamental : goal.returns-then-fundamental
 returns-then-fundamental c =

@@ -12,7 +12,7 @@ fundamental_bin-bin-requires c = grid_le c.requires.samples_value
 pub thd_at-requires : goal.thd_at-requires
 unfolding quarter_table
 thd_at-requires c =
-    record { table_value = refl; samples_value = c.requires.samples_value; bin_nonzero = usable_bin _ _ _ (sym c.usable.ensures ∙ c.if-usable.true); le_top = c.requires.le_top }
+    record { samples_value = c.requires.samples_value; bin_nonzero = usable_bin _ _ _ (sym c.usable.ensures ∙ c.if-usable.true); le_top = c.requires.le_top }
 
 pub returns-then-usable : goal.returns-then-usable
 returns-then-usable c =

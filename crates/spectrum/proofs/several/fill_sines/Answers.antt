@@ -13,7 +13,7 @@ pub overflow_mul-j : goal.overflow_mul-j
 overflow_mul-j c = omega (arith, step_lt c.args.n c.requires.n_value (omega arith) c.loop-j-test.true)
 
 pub sine-requires : goal.sine-requires
-sine-requires c = record { table_value = c.requires.table_value; step_bound = step_lt c.args.n c.requires.n_value (omega arith) c.loop-j-test.true }
+sine-requires c = step_lt c.args.n c.requires.n_value (omega arith) c.loop-j-test.true
 
 pub offset_bounds-scratch-j : goal.offset_bounds-scratch-j
 offset_bounds-scratch-j c = omega (arith, grid_le c.requires.n_value)
