@@ -116,7 +116,7 @@ fn store_four(output: &mut [f32], k: usize, r: Four, n: usize)
     store(output, k + 3, r.fourth, n);
 }
 
-// The bins below half the length, four after four.
+// The bins below half the length, four a turn.
 pub fn fill_by_four(sines: &[f64], samples: &[f32], output: &mut [f32])
     requires sines { Sines (length samples.now) sines.now }
     requires samples_value { on_grid (length samples.now) ≡ true }
@@ -126,10 +126,8 @@ pub fn fill_by_four(sines: &[f64], samples: &[f32], output: &mut [f32])
 {
     let n = samples.len();
     let half = n / 2;
-    let mut k: usize = 0;
-    while k < half {
-        let r = four_sums(sines, samples, k);
-        store_four(output, k, r, n);
-        k += 4;
+    for turn in 0..half / 4 {
+        let k = 4 * turn;
+        store_four(output, k, four_sums(sines, samples, k), n);
     }
 }
