@@ -37,6 +37,7 @@ fn find_extremes(samples: &[f32]) -> Extremes
     let mut max: f32 = f32::from_bits(0xff80_0000);
     let mut min: f32 = f32::from_bits(0x7f80_0000);
     let mut k = 0usize;
+    // no `for`: each search says where the next begins
     while k < samples.len() {
         max = raised(max, samples[k]);
         min = lowered(min, samples[k]);

@@ -27,6 +27,7 @@ fn left_of(m: u64, k: u64, n: u64) -> u64
 {
     let mut r = m;
     let mut left = k;
+    // not counted in turns, which would divide k by 40
     while 40 < left {
         r = (r << 40) % n;
         left -= 40;

@@ -65,6 +65,7 @@ pub fn power_of_blocks(spectrum: &[f32], bin: usize, first: usize) -> Tally
     if bin != 1 {
         return Tally { sum, order: h };
     }
+    // not over `chunks`: the order that the last block leaves is what comes next
     while h + BLOCK <= spectrum.len() {
         if !passes::parts::numbers_in(spectrum, h, BLOCK) {
             break;
