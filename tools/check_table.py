@@ -47,7 +47,7 @@ def sine(x):
 
 
 def entries(text):
-    found = re.search(r"const QUARTER: \[u32; 1025\] = \[([0-9,\s]*)\];", text)
+    found = re.search(r"static QUARTER: \[u32; 1025\] = \[([0-9,\s]*)\];", text)
     if not found:
         sys.exit(f"{SOURCE}: no table found")
     return [int(word) for word in found.group(1).replace(",", " ").split()]

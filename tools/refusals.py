@@ -2,7 +2,7 @@
 """Says why each must-fail edit is refused: its label and the first error of a check of its crate with the edit. `rt must-fail` and `rt ci` ask whether an edit is
 refused at all; here a copy of each crate, and of those below it, is checked with each of its edits, as many crates side by side as there are processors.
 An edit after which a goal of the proof has no name any more, or a place of the code is not where the proof looks for it, and nothing else is wrong, only made
-the proof unfit for the code and shows nothing: such a one is marked WEAK, and the program ends with status 1. An edit with lines '# refuses: F G ..' makes one
+the proof unfit for the code and shows nothing: such a one is marked WEAK, and the program ends with status 1. An edit with lines '# refuses: F G ..' (of a method of an impl that is TYPE::F, as `rt check` names it) makes one
 wrong change in each of these functions, or one that each of these laws is about, and is WEAK unless each was refused for itself: by a goal of its own, and not
 only because a function that it calls was, or because a name is gone. Those that weren't are tried again with the names of goals in their proofs as they are after
 the change, place by place (a goal is named after the code that it stands at, and so a changed test renames it), and then by their own wrong program alone. An edit
@@ -74,7 +74,8 @@ def names_of(folder, texts):
         for goals in pathlib.Path(room).glob("*-proofs/**/Goals.antt"):
             lts = goals.with_name("Lts.antt")
             read = goals.read_text(encoding="utf-8") + (lts.read_text(encoding="utf-8") if lts.exists() else "")
-            found[goals.parent.name] = pathlib.Path("proofs", *goals.relative_to(room).parts[1:-1]), re.findall(r"^ *(?:abbrev )?pub (\S+) :", read, re.M)
+            place = goals.relative_to(room).parts[1:-1]
+            found[place[-1]] = found["::".join(place[-2:])] = pathlib.Path("proofs", *place), re.findall(r"^ *(?:abbrev )?pub (\S+) :", read, re.M)
     return found
 
 
@@ -115,8 +116,8 @@ def errors_of(text):
 def is_own(name, error):
     """Whether this error refuses the function or law of this name for itself."""
     where, why = error
-    name = re.escape(name)
-    own = re.search(rf"::{name}$|/{name}/\w+\.antt$", where) or re.match(rf"`{name}`: ", why)
+    folder, name = re.escape(name.replace("::", "/")), re.escape(name)
+    own = re.search(rf"::{name}$|/{folder}/\w+\.antt$", where) or re.match(rf"`{name}`: ", why)
     return bool(own) and not LOST.search(why)
 
 

@@ -1,6 +1,6 @@
 -- How near `compute_power` is to exact arithmetic, for every capture of 1 to 65,536 pairs of whole numbers of size at most 32,768: demand 3, sentence by sentence.
 -- A finite float x is the fraction `value x / den x`, and `num x / den x` in size. The sentences are multiplied out, so that only whole numbers are compared. Definitions only.
-use Rattle.std.specs.Prelude.{ℕ, zero, suc, ◌+◌, ◌*◌, ◌^◌, ◌≤◌, ◌<◌, ◌≡◌, List, map, T, length, get_or, ℤ, pos, negsuc, nat_abs, ◌-ℤ◌, ◌*ℤ◌, Float}
+use Rattle.std.specs.Prelude.{ℕ, zero, suc, ◌+◌, ◌*◌, ◌^◌, ◌≤◌, ◌<◌, ◌≡◌, List, map, T, length, get_or, ℤ, pos, negsuc, nat_abs, ◌-ℤ◌, ◌*ℤ◌, Ok, Float}
 use Rattle.std.specs.Float.{nan, binary32}
 use Rattle.std.specs.Float.Ieee.{of_int}
 use Rattle.std.specs.Float.Ieee.Scale.{finite}
@@ -8,10 +8,9 @@ use Rattle.std.specs.Float.Ieee.Positive.{num, den}
 use Rattle.laws.specs.Whole.{value, Is}
 use Rattle.laws.specs.Products.{code_at, products}
 use Rattle.number.specs.Nearest.{squared}
-use Rattle.answers.specs.declared.Outcome.TheVariants.{Done}
 use Rattle.answers.specs.Numbers.{longest}
 use Rattle.power.specs.declared.Power.{Power}
-use Rattle.power.specs.Power.{answered, power_of, answer_of}
+use Rattle.power.specs.Power.{power_of, answer_of}
 
 -- ---- what is measured
 
@@ -100,7 +99,7 @@ pub record Bounds (n v i : ℕ) (w : ℤ) (r : Power) : Type 0 where
 abbrev pub Accuracy : Type 0
 Accuracy =
     (v i : List Float) (x y : ℕ → ℤ) → Capture v x → Capture i y → length v ≡ length i → 0 < length v → length v ≤ longest
-    → (answer_of v i ≡ answered Done (power_of v i)) × Bounds (length v) (squares x (length v)) (squares y (length v)) (products x y (length v)) (power_of v i)
+    → (answer_of v i ≡ Ok (power_of v i)) × Bounds (length v) (squares x (length v)) (squares y (length v)) (products x y (length v)) (power_of v i)
 
 -- any codes of 16 bits are such a capture
 abbrev pub Codes : Type 0

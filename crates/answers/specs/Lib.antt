@@ -1,4 +1,4 @@
 -- What the contracts of every crate cite. Assumes nothing.
 pub mod Numbers
 pub mod Left
-pub mod Measured
+pub mod Answers

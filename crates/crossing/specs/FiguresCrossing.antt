@@ -1,7 +1,12 @@
--- How an answer of `figures` crosses the boundary: the outcome as its number, the record as it is. Definitions only.
+-- How an answer of `figures` crosses the boundary: the outcome as its number, the record as it is. 01, of a refusal: "a signal state, port state or earlier
+-- record handed in comes back unchanged". Definitions only.
 use Rattle.answers.specs.Numbers.{number_of}
-use Rattle.figures.specs.declared.TimeAnswer.{TimeAnswer}
+use Rattle.std.specs.Prelude.{Result}
+use Rattle.answers.specs.declared.Refusal.{Refusal}
+use Rattle.answers.specs.Answers.{ended, told}
+use Rattle.figures.specs.declared.TimeFigures.{TimeFigures}
 use Rattle.crossing.specs.declared.times.CodedFigures.{CodedFigures}
 
-abbrev pub coded_figures : TimeAnswer → CodedFigures
-coded_figures a = record { code = number_of a.outcome; figures = a.figures }
+-- the earlier record was handed in
+abbrev pub coded_figures : TimeFigures → Result TimeFigures Refusal → CodedFigures
+coded_figures earlier a = record { code = number_of (ended a); figures = told earlier a }

@@ -2,8 +2,8 @@
 ghost use Rattle.std.specs.Prelude.{◌≡◌};
 ghost use Rattle.crossing.specs.CaptureCrossing.{coded_read, coded_written};
 
-use capture::ReadAnswer;
-use writing::WriteAnswer;
+use answers::{Refusal, number_of};
+use capture::Refused;
 
 // The number of a reading's outcome, the line and the pairs.
 #[repr(C)]
@@ -22,25 +22,35 @@ pub struct CodedWritten {
     pub bytes: usize,
 }
 
-impl From<ReadAnswer> for CodedRead {
+impl From<Result<usize, Refused>> for CodedRead {
     ghost from_gives = { λ a coded. coded ≡ coded_read a };
 
-    fn from(a: ReadAnswer) -> CodedRead {
-        CodedRead {
-            code: answers::number_of(a.outcome),
-            line: a.line,
-            pairs: a.pairs,
+    fn from(a: Result<usize, Refused>) -> CodedRead {
+        match a {
+            Ok(pairs) => CodedRead {
+                code: 0,
+                line: 0,
+                pairs,
+            },
+            Err(Refused { refusal, line }) => CodedRead {
+                code: number_of(refusal),
+                line,
+                pairs: 0,
+            },
         }
     }
 }
 
-impl From<WriteAnswer> for CodedWritten {
+impl From<Result<usize, Refusal>> for CodedWritten {
     ghost from_gives = { λ a coded. coded ≡ coded_written a };
 
-    fn from(a: WriteAnswer) -> CodedWritten {
-        CodedWritten {
-            code: answers::number_of(a.outcome),
-            bytes: a.bytes,
+    fn from(a: Result<usize, Refusal>) -> CodedWritten {
+        match a {
+            Ok(bytes) => CodedWritten { code: 0, bytes },
+            Err(refusal) => CodedWritten {
+                code: number_of(refusal),
+                bytes: 0,
+            },
         }
     }
 }

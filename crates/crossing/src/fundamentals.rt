@@ -2,7 +2,8 @@
 ghost use Rattle.std.specs.Prelude.{◌≡◌};
 ghost use Rattle.crossing.specs.FundamentalCrossing.{coded_fundamental};
 
-use fundamental::FundamentalAnswer;
+use answers::{Refusal, number_of};
+use fundamental::FundamentalPower;
 
 // The number of the call's outcome, and the two figures.
 #[repr(C)]
@@ -13,14 +14,21 @@ pub struct CodedFundamental {
     pub reactive: f32,
 }
 
-impl From<FundamentalAnswer> for CodedFundamental {
+impl From<Result<FundamentalPower, Refusal>> for CodedFundamental {
     ghost from_gives = { λ a coded. coded ≡ coded_fundamental a };
 
-    fn from(a: FundamentalAnswer) -> CodedFundamental {
-        CodedFundamental {
-            code: answers::number_of(a.outcome),
-            active: a.power.active,
-            reactive: a.power.reactive,
+    fn from(a: Result<FundamentalPower, Refusal>) -> CodedFundamental {
+        match a {
+            Ok(power) => CodedFundamental {
+                code: 0,
+                active: power.active,
+                reactive: power.reactive,
+            },
+            Err(refusal) => CodedFundamental {
+                code: number_of(refusal),
+                active: 0.0,
+                reactive: 0.0,
+            },
         }
     }
 }

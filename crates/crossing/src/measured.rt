@@ -2,7 +2,7 @@
 ghost use Rattle.std.specs.Prelude.{◌≡◌};
 ghost use Rattle.crossing.specs.Measured.{figure_of};
 
-use answers::Measured;
+use answers::{Refusal, number_of};
 
 #[repr(C)]
 #[derive(Clone, Copy)]
@@ -11,13 +11,16 @@ pub struct Figure {
     pub value: f32,
 }
 
-impl From<Measured> for Figure {
+impl From<Result<f32, Refusal>> for Figure {
     ghost from_gives = { λ m figure. figure ≡ figure_of m };
 
-    fn from(m: Measured) -> Figure {
-        Figure {
-            code: answers::number_of(m.outcome),
-            value: m.value,
+    fn from(m: Result<f32, Refusal>) -> Figure {
+        match m {
+            Ok(value) => Figure { code: 0, value },
+            Err(refusal) => Figure {
+                code: number_of(refusal),
+                value: 0.0,
+            },
         }
     }
 }

@@ -2,7 +2,8 @@
 ghost use Rattle.std.specs.Prelude.{◌≡◌};
 ghost use Rattle.crossing.specs.PowerCrossing.{coded_power};
 
-use power::{Power, PowerAnswer};
+use answers::{Refusal, number_of};
+use power::Power;
 
 // The number of the call's outcome, and the record.
 #[repr(C)]
@@ -12,13 +13,16 @@ pub struct CodedPower {
     pub power: Power,
 }
 
-impl From<PowerAnswer> for CodedPower {
+impl From<Result<Power, Refusal>> for CodedPower {
     ghost from_gives = { λ a coded. coded ≡ coded_power a };
 
-    fn from(a: PowerAnswer) -> CodedPower {
-        CodedPower {
-            code: answers::number_of(a.outcome),
-            power: a.power,
+    fn from(a: Result<Power, Refusal>) -> CodedPower {
+        match a {
+            Ok(power) => CodedPower { code: 0, power },
+            Err(refusal) => CodedPower {
+                code: number_of(refusal),
+                power: power::ZERO,
+            },
         }
     }
 }

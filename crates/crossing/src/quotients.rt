@@ -2,7 +2,8 @@
 ghost use Rattle.std.specs.Prelude.{◌≡◌};
 ghost use Rattle.crossing.specs.QualityCrossing.{coded_quotient, coded_sfdr};
 
-use quality::{Quotient, QuotientAnswer, Sfdr, SfdrAnswer};
+use answers::{Refusal, number_of};
+use quality::Sfdr;
 
 // The number of the call's outcome, and the case of the quotient as its kind and ratio.
 #[repr(C)]
@@ -13,35 +14,29 @@ pub struct CodedQuotient {
     pub ratio: f64,
 }
 
-impl From<QuotientAnswer> for CodedQuotient {
+impl From<Result<Option<f64>, Refusal>> for CodedQuotient {
     ghost from_gives = { λ a coded. coded ≡ coded_quotient a };
 
-    fn from(a: QuotientAnswer) -> CodedQuotient {
-        let (kind, ratio) = match a.quotient {
-            Quotient::Ratio(ratio) => (0, ratio),
-            Quotient::UnusableBin => (2, 0.0),
+    fn from(a: Result<Option<f64>, Refusal>) -> CodedQuotient {
+        let (code, kind, ratio) = match a {
+            Ok(Some(ratio)) => (0, 0, ratio),
+            Ok(None) => (0, 2, 0.0),
+            Err(refusal) => (number_of(refusal), 0, 0.0),
         };
-        CodedQuotient {
-            code: answers::number_of(a.outcome),
-            kind,
-            ratio,
-        }
+        CodedQuotient { code, kind, ratio }
     }
 }
 
-impl From<SfdrAnswer> for CodedQuotient {
+impl From<Result<Sfdr, Refusal>> for CodedQuotient {
     ghost from_gives = { λ a coded. coded ≡ coded_sfdr a };
 
-    fn from(a: SfdrAnswer) -> CodedQuotient {
-        let (kind, ratio) = match a.quotient {
-            Sfdr::Ratio(ratio) => (0, std::num::f32_to_f64_with_nan(ratio)),
-            Sfdr::NoSpur => (1, 0.0),
-            Sfdr::UnusableBin => (2, 0.0),
+    fn from(a: Result<Sfdr, Refusal>) -> CodedQuotient {
+        let (code, kind, ratio) = match a {
+            Ok(Sfdr::Ratio(ratio)) => (0, 0, std::num::f32_to_f64_with_nan(ratio)),
+            Ok(Sfdr::NoSpur) => (0, 1, 0.0),
+            Ok(Sfdr::UnusableBin) => (0, 2, 0.0),
+            Err(refusal) => (number_of(refusal), 0, 0.0),
         };
-        CodedQuotient {
-            code: answers::number_of(a.outcome),
-            kind,
-            ratio,
-        }
+        CodedQuotient { code, kind, ratio }
     }
 }

@@ -36,7 +36,7 @@ impl From<TjSignal> for State {
     fn from(s: TjSignal) -> State {
         State {
             shape: Shape {
-                wave: generator::wave_of(s.wave),
+                wave: s.wave.into(),
                 amplitude: s.amplitude,
                 phase: s.phase,
                 frequency: s.frequency,
@@ -58,7 +58,7 @@ impl From<State> for TjSignal {
 
     fn from(s: State) -> TjSignal {
         TjSignal {
-            wave: generator::wave_number(s.shape.wave),
+            wave: s.shape.wave.into(),
             edition: s.metrics.edition,
             amplitude: s.shape.amplitude,
             phase: s.shape.phase,
@@ -76,7 +76,7 @@ impl From<Answer> for CodedSignal {
 
     fn from(a: Answer) -> CodedSignal {
         CodedSignal {
-            code: answers::number_of(a.outcome),
+            code: answers::code_of(a.outcome),
             signal: a.state.into(),
         }
     }

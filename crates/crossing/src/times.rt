@@ -2,7 +2,8 @@
 ghost use Rattle.std.specs.Prelude.{◌≡◌};
 ghost use Rattle.crossing.specs.FiguresCrossing.{coded_figures};
 
-use figures::{TimeAnswer, TimeFigures};
+use answers::{Refusal, number_of};
+use figures::TimeFigures;
 
 // The number of the call's outcome, and the record.
 #[repr(C)]
@@ -12,13 +13,17 @@ pub struct CodedFigures {
     pub figures: TimeFigures,
 }
 
-impl From<TimeAnswer> for CodedFigures {
-    ghost from_gives = { λ a coded. coded ≡ coded_figures a };
-
-    fn from(a: TimeAnswer) -> CodedFigures {
-        CodedFigures {
-            code: answers::number_of(a.outcome),
-            figures: a.figures,
+impl CodedFigures {
+    // Of a refused call, the earlier record that was handed in.
+    pub fn new(earlier: TimeFigures, a: Result<TimeFigures, Refusal>) -> CodedFigures
+        ensures { result ≡ coded_figures earlier a }
+    {
+        match a {
+            Ok(figures) => CodedFigures { code: 0, figures },
+            Err(refusal) => CodedFigures {
+                code: number_of(refusal),
+                figures: earlier,
+            },
         }
     }
 }

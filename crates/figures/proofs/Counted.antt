@@ -6,6 +6,7 @@ use mathlib.Core.Logic.{⊎_elim}
 use lib.ListN.{length}
 use borrow.Author.Tests.{lt-ltb, le-ltb, ne_eqb}
 use Rattle.answers.specs.Numbers.{longest}
+use Rattle.answers.specs.Answers.{told}
 use Rattle.counts.proofs.Finite.{zero_exactly}
 use Rattle.figures.specs.Figures.{figures_of, answer_of}
 use Rattle.figures.specs.Counted.{CountsMeasured, CountsKept, FromFinite}
@@ -21,7 +22,7 @@ pub counts_kept : CountsKept
 unfolding answer_of
 counts_kept wave amplitude frequency earlier xs h = ⊎_elim none (λ l. rw (lt-ltb longest (length xs) l)) h
   where
-    none : length xs ≡ 0 → (answer_of wave amplitude frequency earlier xs).figures ≡ earlier
+    none : length xs ≡ 0 → told earlier (answer_of wave amplitude frequency earlier xs) ≡ earlier
     none e = rw e
 
 pub from_finite : FromFinite

@@ -6,4 +6,3 @@ pub mod Rectified
 pub mod Whole
 pub mod Counted
 pub mod Unusual
-pub mod Answer

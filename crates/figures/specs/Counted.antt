@@ -1,6 +1,7 @@
 -- What the two counts of the record that is handed out say (02, h). Definitions only; each claim is proved in proofs/Counted.antt.
 use Rattle.std.specs.Prelude.{◌≤◌, ◌<◌, ◌≡◌, ◌⊎◌, List, length, Float}
 use Rattle.answers.specs.Numbers.{longest}
+use Rattle.answers.specs.Answers.{told}
 use Rattle.generator.specs.declared.Wave.{Wave}
 use Rattle.counts.specs.Counts.{not_numbers_of, infinite_of}
 use Rattle.counts.specs.Claims.{AllFinite}
@@ -19,13 +20,13 @@ HasCounts xs r = (r.not_numbers ≡ not_numbers_of xs) × (r.infinite ≡ infini
 abbrev pub CountsMeasured : Type 0
 CountsMeasured =
     (wave : Wave) (amplitude frequency : Float) (earlier : TimeFigures) (xs : List Float) → IsMeasured xs
-    → HasCounts xs (answer_of wave amplitude frequency earlier xs).figures
+    → HasCounts xs (told earlier (answer_of wave amplitude frequency earlier xs))
 
 -- 02, h: "with no samples the earlier counts come back with the earlier record", and so they do in a refusal (`counts_kept`)
 abbrev pub CountsKept : Type 0
 CountsKept =
     (wave : Wave) (amplitude frequency : Float) (earlier : TimeFigures) (xs : List Float) → (length xs ≡ 0) ⊎ (longest < length xs)
-    → (answer_of wave amplitude frequency earlier xs).figures ≡ earlier
+    → told earlier (answer_of wave amplitude frequency earlier xs) ≡ earlier
 
 abbrev pub BothZeroIn : TimeFigures → Type 0
 BothZeroIn r = (r.not_numbers ≡ 0) × (r.infinite ≡ 0)
@@ -35,5 +36,5 @@ BothZeroIn r = (r.not_numbers ≡ 0) × (r.infinite ≡ 0)
 abbrev pub FromFinite : Type 0
 FromFinite =
     (wave : Wave) (amplitude frequency : Float) (earlier : TimeFigures) (xs : List Float) → IsMeasured xs
-    → (BothZeroIn (answer_of wave amplitude frequency earlier xs).figures → AllFinite xs)
-    × (AllFinite xs → BothZeroIn (answer_of wave amplitude frequency earlier xs).figures)
+    → (BothZeroIn (told earlier (answer_of wave amplitude frequency earlier xs)) → AllFinite xs)
+    × (AllFinite xs → BothZeroIn (told earlier (answer_of wave amplitude frequency earlier xs)))

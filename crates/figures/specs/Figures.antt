@@ -2,11 +2,11 @@
 -- "Add both counts to the record that all readers share"), and the answer. Definitions only.
 -- No sample rate is given. For frequency, period and slew rate the samples are one second, so that the rate is their count: the Rust's "Buffer represents 1 second of
 -- data (sample_rate == num_samples)". For rise and fall time they are one period of the frequency handed in where that is above 0 (Edges.antt, `sample_time_of`).
-use Rattle.std.specs.Prelude.{cond, List, eqb, length, Float}
+use Rattle.std.specs.Prelude.{cond, List, eqb, length, Float, Result, Ok, Err}
 use Rattle.std.specs.Float.{binary32}
 use Rattle.std.specs.Float.Ieee.{sub, neg}
-use Rattle.answers.specs.declared.Outcome.{Outcome}
-use Rattle.answers.specs.declared.Outcome.TheVariants.{Done, TooLong}
+use Rattle.answers.specs.declared.Refusal.{Refusal}
+use Rattle.answers.specs.declared.Refusal.TheVariants.{TooLong}
 use Rattle.answers.specs.Numbers.{too_long}
 use Rattle.generator.specs.declared.Wave.{Wave}
 use Rattle.laws.specs.Literals.{zero32, one32, count32}
@@ -14,7 +14,6 @@ use Rattle.laws.specs.Quotients.{ratio_or_zero}
 use Rattle.timing.specs.Timing.{frequency_about, slew_of}
 use Rattle.counts.specs.Counts.{not_numbers_of, infinite_of}
 use Rattle.figures.specs.declared.TimeFigures.{TimeFigures}
-use Rattle.figures.specs.declared.TimeAnswer.{TimeAnswer}
 use Rattle.figures.specs.Levels.{max_of, min_of, average_of, dc_rms_of, ac_rms_of, rectified_of}
 use Rattle.figures.specs.Duty.{duty_of}
 use Rattle.figures.specs.Edges.{RiseFall, rise_fall_between, edge_time_of}
@@ -123,12 +122,8 @@ zero_figures = record {
 
 -- ---- the answer
 
-abbrev pub answer : Outcome → TimeFigures → TimeAnswer
-answer o r = record { outcome = o; figures = r }
-
--- 01, row 3: 3 for more than 65,536 samples, and "an earlier record handed in comes back unchanged"; item 5: "With no samples the earlier
+-- 01, row 3: 3 for more than 65,536 samples, and then whoever handed the earlier record in has it; item 5: "With no samples the earlier
 -- record comes back as it was"; 02, h: "with no samples the earlier counts come back with the earlier record"
-unfoldable pub answer_of : Wave → Float → Float → TimeFigures → List Float → TimeAnswer
+unfoldable pub answer_of : Wave → Float → Float → TimeFigures → List Float → Result TimeFigures Refusal
 answer_of wave amplitude frequency earlier xs =
-    cond (too_long (length xs)) (answer TooLong earlier)
-    (answer Done (cond (eqb (length xs) 0) earlier (figures_of wave amplitude frequency xs)))
+    cond (too_long (length xs)) (Err TooLong) (Ok (cond (eqb (length xs) 0) earlier (figures_of wave amplitude frequency xs)))

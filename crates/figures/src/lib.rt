@@ -9,9 +9,9 @@ mod ratios;
 
 ghost use Rattle.std.specs.Prelude.{◌≡◌, ◌≤◌, length};
 ghost use Rattle.answers.specs.Numbers.{longest};
-ghost use Rattle.figures.specs.Figures.{answer, figures_of, answer_of};
+ghost use Rattle.figures.specs.Figures.{figures_of, answer_of};
 
-use answers::{LONGEST, Outcome};
+use answers::{LONGEST, Refusal};
 use generator::Wave;
 
 // The fields of the Rust's SignalMetrics in its order, without those of the spectrum; then the two counts.
@@ -66,13 +66,6 @@ pub const ZERO_FIGURES: TimeFigures = TimeFigures {
     infinite: 0,
 };
 
-// The figures, and how the call ended.
-#[derive(Clone, Copy, Drop)]
-pub struct TimeAnswer {
-    pub outcome: Outcome,
-    pub figures: TimeFigures,
-}
-
 // The record of at least one sample. For frequency and slew rate the samples are one second, so their count is the rate.
 fn measure(wave: Wave, amplitude: f32, frequency: f32, samples: &[f32]) -> TimeFigures
     requires { length samples.now ≤ longest }
@@ -111,37 +104,22 @@ fn measure(wave: Wave, amplitude: f32, frequency: f32, samples: &[f32]) -> TimeF
     }
 }
 
-// The answer of a call that was done.
-fn done(figures: TimeFigures) -> TimeAnswer
-    ensures { result ≡ answer Outcome.Done figures }
-{
-    TimeAnswer {
-        outcome: Outcome::Done,
-        figures,
-    }
-}
-
-// Steps 1 to 9 of the Rust's calculate_metrics. With no samples, and where the capture is refused, the earlier record comes back.
-#[tactic(auto, using(crate::proofs::Answer::too_many))]
+// Steps 1 to 9 of the Rust's calculate_metrics. With no samples the earlier record comes back.
+#[tactic(auto, unfolding(crate::specs::Figures::answer_of))]
 pub fn calculate_time_figures(
     wave: Wave,
     amplitude: f32,
     frequency: f32,
     earlier: TimeFigures,
     samples: &[f32],
-) -> TimeAnswer
+) -> Result<TimeFigures, Refusal>
     ensures { result ≡ answer_of wave amplitude frequency earlier samples.now }
 {
-    let n = samples.len();
-    if n > LONGEST {
-        return TimeAnswer {
-            outcome: Outcome::TooLong,
-            figures: earlier,
-        };
+    if samples.len() > LONGEST {
+        return Err(Refusal::TooLong);
     }
-    if n == 0 {
-        return done(earlier);
+    if samples.is_empty() {
+        return Ok(earlier);
     }
-    let figures = measure(wave, amplitude, frequency, samples);
-    done(figures)
+    Ok(measure(wave, amplitude, frequency, samples))
 }

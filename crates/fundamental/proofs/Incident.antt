@@ -1,10 +1,9 @@
 -- What samples that are no numbers do to the figures, at any place of the voltage or the current: beside a NaN both are NaN, and beside an infinity neither is
 -- finite. Of a call that is done. Assumes nothing.
-use Rattle.std.proofs.Common.{◌≡◌, ℕ, ◌<◌, false, List, length, get_or, sym, refl, ap, ◌∙◌}
+use Rattle.std.proofs.Common.{◌≡◌, ℕ, ◌<◌, false, List, length, get_or, refl, ap, ◌∙◌, Ok}
 use lib.Ieee.{Float, nan, binary64, mul, div}
 use lib.Ieee.Scale.{finite}
-use Rattle.answers.specs.declared.Outcome.TheVariants.{Done}
-use Rattle.answers.specs.Numbers.{if_done}
+use Rattle.answers.specs.Numbers.{done}
 use Rattle.laws.proofs.NotNumber.{nan_add, nan_sub, mul_nan, nan_mul}
 use Rattle.laws.proofs.NotFinite.{beyond_add, beyond_mul, mul_beyond, beyond_div}
 use Rattle.number.specs.Number.{narrow}
@@ -14,7 +13,7 @@ use Rattle.spectrum.specs.Bin.{sums_of}
 use Rattle.spectrum.proofs.Unusual.{beyond_sub, nan_real, nan_imag, real_beyond, imag_beyond}
 use Rattle.fundamental.specs.declared.FundamentalPower.{FundamentalPower}
 use Rattle.fundamental.specs.Fundamental.{in_phase, across, scaled_of, fundamental_with, fundamental_figures, fundamental_of, fundamental_outcome, fundamental_answer}
-use Rattle.fundamental.proofs.Ends.{answered, answer_of_lem}
+use Rattle.fundamental.proofs.Ends.{answer_done}
 
 -- neither figure is finite
 pub record NeitherFinite (p : FundamentalPower) : Type 0 where
@@ -56,25 +55,24 @@ module _ (v i : Sums) (n : ℕ) where
       }
 
 -- of a call that is done
-module _ (v i : List Float) (k j : ℕ) (done : fundamental_outcome (length v) (length i) k ≡ Done) where
-  taken : fundamental_answer v i k ≡ answered Done (fundamental_of v i k)
-  unfolding if_done
-  taken = answer_of_lem v i k Done (sym done)
+module _ (v i : List Float) (k j : ℕ) (done : fundamental_outcome (length v) (length i) k ≡ done) where
+  taken : fundamental_answer v i k ≡ Ok (fundamental_of v i k)
+  taken = answer_done v i k done
 
   module _ (h : j < length v) where
-    pub nan_in_voltage : get_or v j nan ≡ nan → fundamental_answer v i k ≡ answered Done (fundamental_with nan nan)
+    pub nan_in_voltage : get_or v j nan ≡ nan → fundamental_answer v i k ≡ Ok (fundamental_with nan nan)
     unfolding fundamental_of
-    nan_in_voltage e = taken ∙ ap (answered Done) (voltage_nan (sums_of v k) (sums_of i k) (length v) (nan_real v k j h e) (nan_imag v k j h e))
+    nan_in_voltage e = taken ∙ ap Ok (voltage_nan (sums_of v k) (sums_of i k) (length v) (nan_real v k j h e) (nan_imag v k j h e))
 
-    pub infinity_in_voltage : finite (get_or v j nan) ≡ false → (fundamental_answer v i k ≡ answered Done (fundamental_of v i k)) × NeitherFinite (fundamental_of v i k)
+    pub infinity_in_voltage : finite (get_or v j nan) ≡ false → (fundamental_answer v i k ≡ Ok (fundamental_of v i k)) × NeitherFinite (fundamental_of v i k)
     unfolding fundamental_of
     infinity_in_voltage e = (taken, voltage_beyond (sums_of v k) (sums_of i k) (length v) (real_beyond v k j h e) (imag_beyond v k j h e))
 
   module _ (h : j < length i) where
-    pub nan_in_current : get_or i j nan ≡ nan → fundamental_answer v i k ≡ answered Done (fundamental_with nan nan)
+    pub nan_in_current : get_or i j nan ≡ nan → fundamental_answer v i k ≡ Ok (fundamental_with nan nan)
     unfolding fundamental_of
-    nan_in_current e = taken ∙ ap (answered Done) (current_nan (sums_of v k) (sums_of i k) (length v) (nan_real i k j h e) (nan_imag i k j h e))
+    nan_in_current e = taken ∙ ap Ok (current_nan (sums_of v k) (sums_of i k) (length v) (nan_real i k j h e) (nan_imag i k j h e))
 
-    pub infinity_in_current : finite (get_or i j nan) ≡ false → (fundamental_answer v i k ≡ answered Done (fundamental_of v i k)) × NeitherFinite (fundamental_of v i k)
+    pub infinity_in_current : finite (get_or i j nan) ≡ false → (fundamental_answer v i k ≡ Ok (fundamental_of v i k)) × NeitherFinite (fundamental_of v i k)
     unfolding fundamental_of
     infinity_in_current e = (taken, current_beyond (sums_of v k) (sums_of i k) (length v) (real_beyond i k j h e))

@@ -1,11 +1,12 @@
 -- Swapping voltage and current: the outcome and the active figure stay, the reactive one is negated, or is +0 both times. On every input. Assumes nothing.
-use Rattle.std.proofs.Common.{◌≡◌, ℕ, zero, suc, ◌*◌, ◌/◌, ◌^◌, ◌<◌, ◌≤◌, Bool, true, false, not, ◌&&◌, T, eqb, ltb, List, length, pos, negsuc, sym, refl, ap, ◌∙◌, subst, inl, inr, le_trans, arith, pow_mono, ltb-false, ltb-true, eq-eqb, ne_eqb, eqb-true}
+use Rattle.std.proofs.Common.{◌≡◌, ℕ, zero, suc, ◌*◌, ◌/◌, ◌^◌, ◌<◌, ◌≤◌, Bool, true, false, not, ◌&&◌, T, eqb, ltb, List, length, pos, negsuc, sym, refl, ap, ◌∙◌, subst, inl, inr, le_trans, arith, pow_mono, ltb-false, ltb-true, eq-eqb, ne_eqb, eqb-true, Result, Ok, Err}
 use lib.Count.{count_trailing_zeros}
 use lib.Ieee.{Float, nan, inf, fin, binary32, binary64, up, down, round, units, odd, size, span, climb, neg, sub, mul, div, of_int, of_bits, of_fields}
 use borrow.Author.Tests.{eqb-false}
-use Rattle.answers.specs.declared.Outcome.{Outcome}
-use Rattle.answers.specs.declared.Outcome.TheVariants.{Done, LengthsDiffer, TooLong, OffGrid, BinOutside}
-use Rattle.answers.specs.Numbers.{if_done, too_long, refuse}
+use Rattle.answers.specs.Numbers.{Outcome, done, too_long, refuse}
+use Rattle.answers.specs.Answers.{given}
+use Rattle.answers.specs.declared.Refusal.{Refusal}
+use Rattle.answers.specs.declared.Refusal.TheVariants.{LengthsDiffer, TooLong, OffGrid, BinOutside}
 use Rattle.laws.specs.Literals.{zero32, count64}
 use Rattle.laws.proofs.Negation.{nought, Opposite, neg_round, mul_swap, neg_mul, neg_div, sub_swap}
 use Rattle.laws.proofs.Tested.{all_below, at}
@@ -14,10 +15,9 @@ use Rattle.spectrum.specs.declared.parts.Sums.{Sums}
 use Rattle.spectrum.specs.Grid.{on_grid}
 use Rattle.spectrum.specs.Bin.{two, sums_of}
 use Rattle.spectrum.proofs.Grid.{power, grid_le, grid_power}
-use Rattle.fundamental.specs.declared.FundamentalAnswer.{FundamentalAnswer}
-use Rattle.fundamental.specs.Fundamental.{in_phase, across, scaled_of, fundamental_figures, fundamental_of, inside, zero_fundamental, fundamental_outcome, fundamental_answer}
+use Rattle.fundamental.specs.declared.FundamentalPower.{FundamentalPower}
+use Rattle.fundamental.specs.Fundamental.{in_phase, across, scaled_of, fundamental_figures, fundamental_of, inside, fundamental_outcome, fundamental_answer}
 use Rattle.fundamental.specs.Swap.{Negated, Swapped, Swap}
-use Rattle.fundamental.proofs.Ends.{answered}
 
 -- ---- through the scaling
 
@@ -97,34 +97,32 @@ module _ (v i : Sums) where
       ∙ ap (λ (z : Float). sub binary64 (mul binary64 i.imag v.real) z) (mul_swap binary64 v.imag i.real))
       (sub_swap binary64 bc ad)
 
-  swapped_figures : (n : ℕ) → on_grid n ≡ true → 0 < n → Swapped (answered Done (fundamental_figures v i n)) (answered Done (fundamental_figures i v n))
+  swapped_figures : (n : ℕ) → on_grid n ≡ true → 0 < n → Swapped (Ok (fundamental_figures v i n)) (Ok (fundamental_figures i v n))
   unfolding fundamental_figures
   swapped_figures n g h = record { outcome = refl; active = ap (λ (x : Float). scaled_of x n) in_phase_lem; reactive = negated n g h (across v i) (across i v) crossed }
 
 -- ---- the answers
 
-same : (o : Outcome) → Swapped (answered o zero_fundamental) (answered o zero_fundamental)
-same o = record { outcome = refl; active = refl; reactive = inr (refl, refl) }
+same : (r : Refusal) → Swapped (Err r) (Err r)
+same r = record { outcome = refl; active = refl; reactive = inr (refl, refl) }
 
 -- the answer by its tests: too long, too long, equal, on the grid, inside
 abbrev chain : Bool → Bool → Bool → Bool → Bool → Outcome
-chain p q r g h = refuse p TooLong (refuse q TooLong (refuse (not r) LengthsDiffer (refuse (not g) OffGrid (refuse (not h) BinOutside Done))))
+chain p q r g h = refuse p TooLong (refuse q TooLong (refuse (not r) LengthsDiffer (refuse (not g) OffGrid (refuse (not h) BinOutside done))))
 
 module _ (v i : List Float) (k : ℕ) where
-  abbrev ending : List Float → List Float → Outcome → FundamentalAnswer
-  ending x y o = answered o (if_done o (fundamental_of x y k) zero_fundamental)
+  abbrev ending : List Float → List Float → Outcome → Result FundamentalPower Refusal
+  ending x y o = given o (fundamental_of x y k)
 
   -- lengths that differ, and lengths that are equal
   apart : (p q g g' h h' : Bool) → Swapped (ending v i (chain p q false g h)) (ending i v (chain q p false g' h'))
-  unfolding if_done
   apart true true g g' h h' = same TooLong
   apart true false g g' h h' = same TooLong
   apart false true g g' h h' = same TooLong
   apart false false g g' h h' = same LengthsDiffer
 
-  together : (p q g h : Bool) → (g ≡ true → h ≡ true → Swapped (answered Done (fundamental_of v i k)) (answered Done (fundamental_of i v k)))
+  together : (p q g h : Bool) → (g ≡ true → h ≡ true → Swapped (Ok (fundamental_of v i k)) (Ok (fundamental_of i v k)))
       → Swapped (ending v i (chain p q true g h)) (ending i v (chain q p true g h))
-  unfolding if_done
   together true true g h f = same TooLong
   together true false g h f = same TooLong
   together false true g h f = same TooLong
@@ -132,15 +130,15 @@ module _ (v i : List Float) (k : ℕ) where
   together false false true false f = same BinOutside
   together false false true true f = f refl refl
 
-  abbrev chained : List Float → List Float → Bool → ℕ → FundamentalAnswer
+  abbrev chained : List Float → List Float → Bool → ℕ → Result FundamentalPower Refusal
   chained x y r l = ending x y (chain (too_long (length x)) (too_long (length y)) r (on_grid l) (inside l k))
 
   is_chained : (x y : List Float) (r : Bool) → eqb (length x) (length y) ≡ r → fundamental_answer x y k ≡ chained x y r (length x)
   unfolding fundamental_answer fundamental_outcome
   is_chained x y r e = ap (λ (t : Bool). chained x y t (length x)) e
 
-  along : (a a' b b' : FundamentalAnswer) → a ≡ a' → b ≡ b' → Swapped a' b' → Swapped a b
-  along a a' b b' x y s = subst (λ (z : FundamentalAnswer). Swapped z b) (sym x) (subst (λ (z : FundamentalAnswer). Swapped a' z) (sym y) s)
+  along : (a a' b b' : Result FundamentalPower Refusal) → a ≡ a' → b ≡ b' → Swapped a' b' → Swapped a b
+  along a a' b b' x y s = subst (λ (z : Result FundamentalPower Refusal). Swapped z b) (sym x) (subst (λ (z : Result FundamentalPower Refusal). Swapped a' z) (sym y) s)
 
   below : (n : ℕ) → inside n k ≡ true → 0 < n
   below n e = go (ltb 0 k) (ltb k (n / 2)) refl e
@@ -151,12 +149,12 @@ module _ (v i : List Float) (k : ℕ) where
       go false q l x = absurd (subst T (sym x) tt)
 
   figures : length v ≡ length i → on_grid (length v) ≡ true → inside (length v) k ≡ true
-      → Swapped (answered Done (fundamental_of v i k)) (answered Done (fundamental_of i v k))
+      → Swapped (Ok (fundamental_of v i k)) (Ok (fundamental_of i v k))
   unfolding fundamental_of
   figures e g h =
       let a = sums_of v k in
       let b = sums_of i k in
-      subst (λ (l : ℕ). Swapped (answered Done (fundamental_figures a b (length v))) (answered Done (fundamental_figures b a l))) e (swapped_figures a b (length v) g (below (length v) h))
+      subst (λ (l : ℕ). Swapped (Ok (fundamental_figures a b (length v))) (Ok (fundamental_figures b a l))) e (swapped_figures a b (length v) g (below (length v) h))
 
   equal : length v ≡ length i → Swapped (fundamental_answer v i k) (fundamental_answer i v k)
   equal e =

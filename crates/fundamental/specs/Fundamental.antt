@@ -1,18 +1,18 @@
 -- What `fundamental_power` answers (02, request c), operation by operation. Each operation on f64 (binary64) is IEEE 754's: the exact result, rounded once.
 -- Definitions only.
-use Rattle.std.specs.Prelude.{ℕ, ◌/◌, Bool, not, ◌&&◌, List, length, ◌==◌, nat_lt, Float}
+use Rattle.std.specs.Prelude.{ℕ, ◌/◌, Bool, not, ◌&&◌, List, length, ◌==◌, nat_lt, Float, Result}
 use Rattle.std.specs.Float.{binary64}
 use Rattle.std.specs.Float.Ieee.{add, sub, mul, div}
-use Rattle.answers.specs.declared.Outcome.{Outcome}
-use Rattle.answers.specs.declared.Outcome.TheVariants.{Done, LengthsDiffer, TooLong, OffGrid, BinOutside}
-use Rattle.answers.specs.Numbers.{if_done, too_long, refuse}
+use Rattle.answers.specs.Numbers.{Outcome, done, too_long, refuse}
+use Rattle.answers.specs.Answers.{given, told}
+use Rattle.answers.specs.declared.Refusal.{Refusal}
+use Rattle.answers.specs.declared.Refusal.TheVariants.{LengthsDiffer, TooLong, OffGrid, BinOutside}
 use Rattle.laws.specs.Literals.{zero32, count64}
 use Rattle.number.specs.Number.{narrow}
 use Rattle.spectrum.specs.declared.parts.Sums.{Sums}
 use Rattle.spectrum.specs.Grid.{on_grid}
 use Rattle.spectrum.specs.Bin.{two, sums_of}
 use Rattle.fundamental.specs.declared.FundamentalPower.{FundamentalPower}
-use Rattle.fundamental.specs.declared.FundamentalAnswer.{FundamentalAnswer}
 
 -- ---- the figures, "With real and imaginary sums a, b of voltage and c, d of current, taken as in 01": v has a and b, i has c and d
 
@@ -52,13 +52,14 @@ fundamental_outcome n m k =
     (refuse (too_long m) TooLong
     (refuse (not (n == m)) LengthsDiffer
     (refuse (not (on_grid n)) OffGrid
-    (refuse (not (inside n k)) BinOutside Done))))
+    (refuse (not (inside n k)) BinOutside done))))
 
--- 01, "What a refusal returns is zero throughout"
+unfoldable pub fundamental_answer : List Float → List Float → ℕ → Result FundamentalPower Refusal
+fundamental_answer v i k = given (fundamental_outcome (length v) (length i) k) (fundamental_of v i k)
+
+-- 01, "What a refusal returns is zero throughout": what the C boundary shows of an answer
 abbrev pub zero_fundamental : FundamentalPower
 zero_fundamental = fundamental_with zero32 zero32
 
-unfoldable pub fundamental_answer : List Float → List Float → ℕ → FundamentalAnswer
-fundamental_answer v i k =
-    let o = fundamental_outcome (length v) (length i) k in
-    record { outcome = o; power = if_done o (fundamental_of v i k) zero_fundamental }
+abbrev pub fundamental_told : List Float → List Float → ℕ → FundamentalPower
+fundamental_told v i k = told zero_fundamental (fundamental_answer v i k)

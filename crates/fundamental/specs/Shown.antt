@@ -1,16 +1,18 @@
 -- Examples, computed from the definitions: lag and lead, other lengths and bins, what becomes of a zero's sign, a NaN, and refusals. Assumes nothing.
-use Rattle.std.specs.Prelude.{◌≡◌, ℕ, List, [], ◌∷◌, map, from_bits, refl, Float}
+use Rattle.std.specs.Prelude.{◌≡◌, ℕ, List, [], ◌∷◌, map, from_bits, refl, Float, Result}
 use Rattle.std.specs.Int.Count.{count_trailing_zeros}
 use Rattle.std.specs.Float.{binary32}
 use Rattle.std.specs.Float.Ieee.{add, sub, mul, div, neg, sum, round, units, odd, size, span, climb, of_int, of_bits, of_fields}
-use Rattle.answers.specs.Numbers.{number_of, if_done}
+use Rattle.answers.specs.Numbers.{number_of}
+use Rattle.answers.specs.declared.Refusal.{Refusal}
+use Rattle.answers.specs.Answers.{ended, told}
 use Rattle.number.specs.Number.{narrow}
 use Rattle.quarter.specs.Table.{quarter_table}
 use Rattle.quarter.specs.Turn.{fraction, quadrant, sine_of, cosine_of}
 use Rattle.spectrum.specs.Grid.{lengths, on_grid}
 use Rattle.spectrum.specs.Bin.{step_of, angle_of, turned, sums_to, sums_of}
-use Rattle.fundamental.specs.declared.FundamentalAnswer.{FundamentalAnswer}
-use Rattle.fundamental.specs.Fundamental.{in_phase, across, scaled_of, fundamental_figures, fundamental_of, fundamental_outcome, fundamental_answer}
+use Rattle.fundamental.specs.declared.FundamentalPower.{FundamentalPower}
+use Rattle.fundamental.specs.Fundamental.{in_phase, across, scaled_of, fundamental_figures, fundamental_of, zero_fundamental, fundamental_outcome, fundamental_answer}
 
 -- by bit patterns: those of 1, -1, 0.5, -0.5, -0 and a NaN are 3F800000, BF800000, 3F000000, BF000000, 80000000 and 7FC00000
 abbrev floats : List ℕ → List Float
@@ -74,8 +76,8 @@ rows =
     ∷ row (0 ∷ 0 ∷ 0 ∷ []) (0 ∷ 0 ∷ []) 0 1 0 0
     ∷ []
 
-abbrev number_and : FundamentalAnswer → ℕ × List Float
-number_and a = (number_of a.outcome, a.power.active ∷ a.power.reactive ∷ [])
+abbrev number_and : Result FundamentalPower Refusal → ℕ × List Float
+number_and a = (number_of (ended a), (told zero_fundamental a).active ∷ (told zero_fundamental a).reactive ∷ [])
 
 abbrev answer_to : Row → ℕ × List Float
 answer_to r = number_and (fundamental_answer (floats r.volts) (floats r.amps) r.bin)
@@ -84,6 +86,6 @@ abbrev wanted : Row → ℕ × List Float
 wanted r = (r.number, floats r.figures)
 
 pub rows_hold : map answer_to rows ≡ map wanted rows
-unfolding fundamental_answer fundamental_outcome fundamental_of fundamental_figures scaled_of in_phase across if_done on_grid lengths sums_of sums_to turned angle_of step_of sine_of
+unfolding fundamental_answer fundamental_outcome fundamental_of fundamental_figures scaled_of in_phase across on_grid lengths sums_of sums_to turned angle_of step_of sine_of
     cosine_of quadrant fraction quarter_table narrow add sub mul div neg sum round units odd size span climb count_trailing_zeros of_int of_bits of_fields
 rows_hold = refl

@@ -7,7 +7,7 @@ ghost use Rattle.spectrum.specs.Grid.{on_grid};
 ghost use Rattle.spectrum.specs.Bin.{sums_of};
 ghost use Rattle.fundamental.specs.Fundamental.{scaled_of, fundamental_figures, fundamental_of, fundamental_outcome, fundamental_answer};
 
-use answers::{LONGEST, Outcome};
+use answers::{LONGEST, Refusal};
 use spectrum::parts::{NO_SUMS, Sums, on_grid, turn};
 
 #[derive(Clone, Copy)]
@@ -16,41 +16,34 @@ pub struct FundamentalPower {
     pub reactive: f32,
 }
 
-// What every refusal answers.
+// What the C boundary shows where a call is refused.
 pub const ZERO: FundamentalPower = FundamentalPower {
     active: 0.0,
     reactive: 0.0,
 };
 
-// How the call ended, and the two figures.
-#[derive(Clone, Copy)]
-pub struct FundamentalAnswer {
-    pub outcome: Outcome,
-    pub power: FundamentalPower,
-}
-
 // The refusals in their order, of so many volts and amps and a bin: 3, 1, 4, 8.
 #[tactic(auto, unfolding(crate::specs::Fundamental::fundamental_outcome))]
-fn judged(volts: usize, amps: usize, bin: usize) -> Outcome
+fn judged(volts: usize, amps: usize, bin: usize) -> Result<(), Refusal>
     ensures { result ≡ fundamental_outcome volts amps bin }
 {
     if volts > LONGEST {
-        return Outcome::TooLong;
+        return Err(Refusal::TooLong);
     }
     if amps > LONGEST {
-        return Outcome::TooLong;
+        return Err(Refusal::TooLong);
     }
     if volts != amps {
-        return Outcome::LengthsDiffer;
+        return Err(Refusal::LengthsDiffer);
     }
     if !on_grid(volts) {
-        return Outcome::OffGrid;
+        return Err(Refusal::OffGrid);
     }
     let inside = (bin > 0) & (bin < volts / 2);
     if !inside {
-        return Outcome::BinOutside;
+        return Err(Refusal::BinOutside);
     }
-    Outcome::Done
+    Ok(())
 }
 
 // The sums of one bin, of the voltage and of the current.
@@ -120,18 +113,14 @@ fn of_bin(voltage: &[f32], current: &[f32], k: usize) -> FundamentalPower
 
 // Refused with 3 where a slice is longer than LONGEST, then with 1 where the lengths differ, with 4 where the length is off the grid, and with 8 where the bin
 // is 0 or not below half the length.
-pub fn fundamental_power(voltage: &[f32], current: &[f32], bin: usize) -> FundamentalAnswer
+#[tactic(auto, using(answers::proofs::Ended::given_done, answers::proofs::Ended::given_refused, crate::proofs::Ends::unrefused), unfolding(crate::specs::Fundamental::fundamental_answer))]
+pub fn fundamental_power(
+    voltage: &[f32],
+    current: &[f32],
+    bin: usize,
+) -> Result<FundamentalPower, Refusal>
     ensures { result ≡ fundamental_answer voltage.now current.now bin }
 {
-    let outcome = judged(voltage.len(), current.len(), bin);
-    if answers::number_of(outcome) != 0 {
-        return FundamentalAnswer {
-            outcome,
-            power: ZERO,
-        };
-    }
-    FundamentalAnswer {
-        outcome,
-        power: of_bin(voltage, current, bin),
-    }
+    judged(voltage.len(), current.len(), bin)?;
+    Ok(of_bin(voltage, current, bin))
 }

@@ -1,13 +1,12 @@
 -- The claims of specs/Claims.antt. Assumes nothing.
 use mathlib.Core.Path.{◌≡◌, refl, sym, ap, ◌∙◌, subst}
 use mathlib.Core.Logic.{inl, inr}
-use mathlib.Core.Bool.{Bool, true, false}
 use mathlib.Core.List.{List}
 use Prim.Native.Nat.{ℕ, zero, suc, ◌/◌, ◌^◌, ◌≤◌, ◌<◌}
 use native.Mathlib.Omega.{arith}
-use borrow.Author.Tests.{eqb-true, eqb-false}
-use lib.Dec.{T, eqb}
+use lib.Dec.{T}
 use lib.ListN.{length}
+use Rattle.std.proofs.Common.{Ok, Err}
 use lib.IntN.{ℤ, pos, negsuc, nat_abs}
 use lib.Ieee.{Float, of_bits}
 use lib.Ieee.Scale.{finite}
@@ -16,17 +15,16 @@ use Rattle.laws.specs.Whole.{value}
 use Rattle.laws.specs.Literals.{zero32}
 use Rattle.laws.proofs.Over.{Over}
 use Rattle.laws.proofs.Bounded.{Bounded, size_value}
-use Rattle.answers.specs.declared.Outcome.{Outcome}
-use Rattle.answers.specs.declared.Outcome.TheVariants.{Done}
-use Rattle.answers.specs.Numbers.{number_of, if_done}
-use Rattle.answers.proofs.Ended.{if_refused, if_done_lem}
+use Rattle.answers.specs.Numbers.{Outcome, done}
+use Rattle.answers.specs.Answers.{given, ended, told}
+use Rattle.answers.proofs.Ended.{ended_given}
 use Rattle.spectrum.specs.Bin.{sums_of}
 use Rattle.spectrum.proofs.Grid.{grid_le}
 use Rattle.accuracy.specs.Accuracy.{Capture, none, sign, SignOf}
 use Rattle.accuracy.proofs.Sentences.{number_finite}
 use Rattle.fundamental.specs.declared.FundamentalPower.{FundamentalPower}
-use Rattle.fundamental.specs.Fundamental.{in_phase, across, scaled_of, fundamental_figures, fundamental_of, zero_fundamental, fundamental_outcome, fundamental_answer}
-use Rattle.fundamental.proofs.Ends.{Unrefused, unrefused}
+use Rattle.fundamental.specs.Fundamental.{in_phase, across, scaled_of, fundamental_figures, fundamental_of, zero_fundamental, fundamental_outcome, fundamental_answer, fundamental_told}
+use Rattle.fundamental.proofs.Ends.{Unrefused, unrefused, answer_done}
 use Rattle.fundamental_codes.specs.Exact.{real_sum, imag_sum, exact_active, exact_reactive, active_size, reactive_size, sizes}
 use Rattle.fundamental_codes.specs.Claims.{BothFinite, exact_up_to, LightCall, NotAgainst, NeverWrong, ClearOfZero, RightSign, Beyond, RightBeyond}
 use Rattle.fundamental_codes.proofs.Sums.{Rough, rough, real_exact, imag_exact, real_27, imag_27}
@@ -84,34 +82,29 @@ module _ (v i : List Float) (x y : ℕ → ℤ) (k : ℕ) (cv : Capture v x) (ci
 abbrev Numbers : FundamentalPower → Type 0
 Numbers p = T (finite p.active) × T (finite p.reactive)
 
-module _ (v i : List Float) (x y : ℕ → ℤ) (k : ℕ) (cv : Capture v x) (ci : Capture i y) (o : Outcome) (ends : o ≡ fundamental_outcome (length v) (length i) k) where
-  numbers : (b : Bool) → eqb (number_of o) 0 ≡ b → Numbers (if_done o (fundamental_of v i k) zero_fundamental)
-  numbers true e =
-      let z : number_of o ≡ 0 = eqb-true (number_of o) 0 e in
-      let g = unrefused (length v) (length i) k (number_of o) o ends refl z in
-      subst Numbers (sym (if_done_lem o (fundamental_of v i k) zero_fundamental (number_of o) refl z))
+module _ (v i : List Float) (x y : ℕ → ℤ) (k : ℕ) (cv : Capture v x) (ci : Capture i y) where
+  numbers : (o : Outcome) → o ≡ fundamental_outcome (length v) (length i) k → Numbers (told zero_fundamental (given o (fundamental_of v i k)))
+  numbers (Ok u) e =
+      let g = unrefused (length v) (length i) k u e in
       (number_finite (fundamental_of v i k).active (active_bounded v i x y k cv ci g).0, number_finite (fundamental_of v i k).reactive (reactive_bounded v i x y k cv ci g).0)
-  numbers false e = subst Numbers (sym (if_refused o (fundamental_of v i k) zero_fundamental (number_of o) refl (eqb-false (number_of o) 0 e))) (zero_finite, zero_finite)
+  numbers (Err r) e = (zero_finite, zero_finite)
 
 pub figures_finite : BothFinite
 unfolding fundamental_answer
-figures_finite v i x y k cv ci =
-    let o = fundamental_outcome (length v) (length i) k in
-    numbers v i x y k cv ci o refl (eqb (number_of o) 0) refl
+figures_finite v i x y k cv ci = numbers v i x y k cv ci (fundamental_outcome (length v) (length i) k) refl
 
 -- ---- the signs
-module _ (v i : List Float) (k : ℕ) (o : (fundamental_answer v i k).outcome ≡ Done) where
-  ended : fundamental_outcome (length v) (length i) k ≡ Done
+module _ (v i : List Float) (k : ℕ) (o : ended (fundamental_answer v i k) ≡ done) where
+  is_done : fundamental_outcome (length v) (length i) k ≡ done
   unfolding fundamental_answer
-  ended = o
+  is_done = sym (ended_given (fundamental_outcome (length v) (length i) k) (fundamental_of v i k)) ∙ o
 
-  power_is : (fundamental_answer v i k).power ≡ fundamental_of v i k
-  unfolding fundamental_answer
-  power_is = if_done_lem (fundamental_outcome (length v) (length i) k) (fundamental_of v i k) zero_fundamental 0 (sym (ap number_of ended)) refl
+  power_is : fundamental_told v i k ≡ fundamental_of v i k
+  power_is = ap (told zero_fundamental) (answer_done v i k is_done)
 
 module _ (v i : List Float) (x y : ℕ → ℤ) (k : ℕ) (m : LightCall v i x y k) where
   g : Unrefused (length v) (length i) k
-  g = unrefused (length v) (length i) k (number_of Done) Done (sym (ended v i k m.done)) refl refl
+  g = unrefused (length v) (length i) k tt (sym (is_done v i k m.done))
 
   -- the four sums
   real_volts : Over 30 (sums_of v k).real (real_sum x (length v) k)
@@ -159,7 +152,7 @@ module _ (v i : List Float) (x y : ℕ → ℤ) (k : ℕ) (m : LightCall v i x y
       (scaled_along (length v) n+ n- (across s t) (across_bounded s t sv si))
       (across_along s t sv si (real_sum x (length v) k) (imag_sum x (length v) k) (real_sum y (length v) k) (imag_sum y (length v) k) real_volts imag_volts real_amps imag_amps)
 
-  pub never_against : NotAgainst (exact_active x y (length v) k) (fundamental_answer v i k).power.active × NotAgainst (exact_reactive x y (length v) k) (fundamental_answer v i k).power.reactive
+  pub never_against : NotAgainst (exact_active x y (length v) k) (fundamental_told v i k).active × NotAgainst (exact_reactive x y (length v) k) (fundamental_told v i k).reactive
   never_against =
       subst (λ (p : FundamentalPower). NotAgainst (exact_active x y (length v) k) p.active × NotAgainst (exact_reactive x y (length v) k) p.reactive) (sym (power_is v i k m.done))
       (active_along, reactive_along)
@@ -183,8 +176,8 @@ module _ (v i : List Float) (x y : ℕ → ℤ) (k : ℕ) (m : LightCall v i x y
       (scaled_pos (length v) n+ n- (across s t) (across_bounded s t sv si)
       (across_size s t sv si (real_sum x (length v) k) (imag_sum x (length v) k) (real_sum y (length v) k) (imag_sum y (length v) k) real_volts imag_volts real_amps imag_amps h)) reactive_along
 
-  right_both : (ClearOfZero (active_size x y (length v) k) (exact_active x y (length v) k) → SignOf (exact_active x y (length v) k) (fundamental_answer v i k).power.active)
-      × (ClearOfZero (reactive_size x y (length v) k) (exact_reactive x y (length v) k) → SignOf (exact_reactive x y (length v) k) (fundamental_answer v i k).power.reactive)
+  right_both : (ClearOfZero (active_size x y (length v) k) (exact_active x y (length v) k) → SignOf (exact_active x y (length v) k) (fundamental_told v i k).active)
+      × (ClearOfZero (reactive_size x y (length v) k) (exact_reactive x y (length v) k) → SignOf (exact_reactive x y (length v) k) (fundamental_told v i k).reactive)
   right_both =
       subst
       (λ (p : FundamentalPower).
@@ -199,9 +192,9 @@ pub right_sign : RightSign
 right_sign = right_both
 
 -- ---- codes of any weight
-module _ (v i : List Float) (x y : ℕ → ℤ) (k : ℕ) (cv : Capture v x) (ci : Capture i y) (o : (fundamental_answer v i k).outcome ≡ Done) where
+module _ (v i : List Float) (x y : ℕ → ℤ) (k : ℕ) (cv : Capture v x) (ci : Capture i y) (o : ended (fundamental_answer v i k) ≡ done) where
   all_clear : Unrefused (length v) (length i) k
-  all_clear = unrefused (length v) (length i) k (number_of Done) Done (sym (ended v i k o)) refl refl
+  all_clear = unrefused (length v) (length i) k tt (sym (is_done v i k o))
 
   rough_volts : Rough (sums_of v k) (length v) (real_sum x (length v) k) (imag_sum x (length v) k)
   rough_volts = rough v x cv k (few v i x y k cv ci all_clear)
@@ -237,8 +230,8 @@ module _ (v i : List Float) (x y : ℕ → ℤ) (k : ℕ) (cv : Capture v x) (ci
       sign_left (scaled_of (across s t) (length v)) (exact_reactive x y (length v) k) (scaled_pos (length v) n+ n- (across s t) b r.1)
       (along_trans (value (scaled_of (across s t) (length v))) (value (across s t)) (exact_reactive x y (length v) k) (scaled_along (length v) n+ n- (across s t) b) r.0)
 
-  beyond_both : (Beyond (length v) (exact_active x y (length v) k) → SignOf (exact_active x y (length v) k) (fundamental_answer v i k).power.active)
-      × (Beyond (length v) (exact_reactive x y (length v) k) → SignOf (exact_reactive x y (length v) k) (fundamental_answer v i k).power.reactive)
+  beyond_both : (Beyond (length v) (exact_active x y (length v) k) → SignOf (exact_active x y (length v) k) (fundamental_told v i k).active)
+      × (Beyond (length v) (exact_reactive x y (length v) k) → SignOf (exact_reactive x y (length v) k) (fundamental_told v i k).reactive)
   beyond_both =
       subst
       (λ (p : FundamentalPower).

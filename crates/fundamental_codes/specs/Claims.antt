@@ -2,9 +2,10 @@
 use Rattle.std.specs.Prelude.{ℕ, ◌*◌, ◌^◌, ◌≤◌, ◌<◌, ◌≡◌, ◌⊎◌, List, T, length, ℤ, nat_abs, Float}
 use Rattle.std.specs.Float.Ieee.Scale.{finite}
 use Rattle.laws.specs.Whole.{value}
-use Rattle.answers.specs.declared.Outcome.TheVariants.{Done}
+use Rattle.answers.specs.Numbers.{done}
+use Rattle.answers.specs.Answers.{ended}
 use Rattle.accuracy.specs.Accuracy.{Capture, none, sign, SignOf}
-use Rattle.fundamental.specs.Fundamental.{fundamental_answer}
+use Rattle.fundamental.specs.Fundamental.{fundamental_answer, fundamental_told}
 use Rattle.fundamental_codes.specs.Exact.{exact_active, exact_reactive, active_size, reactive_size, sizes}
 
 -- ---- the figures are numbers
@@ -13,7 +14,7 @@ use Rattle.fundamental_codes.specs.Exact.{exact_active, exact_reactive, active_s
 abbrev pub BothFinite : Type 0
 BothFinite =
     (v i : List Float) (x y : ℕ → ℤ) (k : ℕ) → Capture v x → Capture i y
-    → T (finite (fundamental_answer v i k).power.active) × T (finite (fundamental_answer v i k).power.reactive)
+    → T (finite (fundamental_told v i k).active) × T (finite (fundamental_told v i k).reactive)
 
 -- ---- their signs
 
@@ -25,7 +26,7 @@ exact_up_to = 2 ^ 23
 pub record LightCall (v i : List Float) (x y : ℕ → ℤ) (k : ℕ) : Type 0 where
   pub voltage : Capture v x
   pub current : Capture i y
-  pub done : (fundamental_answer v i k).outcome ≡ Done
+  pub done : ended (fundamental_answer v i k) ≡ done
   pub light_voltage : sizes x (length v) ≤ exact_up_to
   pub light_current : sizes y (length v) ≤ exact_up_to
 
@@ -41,8 +42,8 @@ NotAgainst d f = SignOf d f ⊎ (sign (value f) ≡ none)
 abbrev pub NeverWrong : Type 0
 NeverWrong =
     (v i : List Float) (x y : ℕ → ℤ) (k : ℕ) → LightCall v i x y k
-    → NotAgainst (exact_active x y (length v) k) (fundamental_answer v i k).power.active
-    × NotAgainst (exact_reactive x y (length v) k) (fundamental_answer v i k).power.reactive
+    → NotAgainst (exact_active x y (length v) k) (fundamental_told v i k).active
+    × NotAgainst (exact_reactive x y (length v) k) (fundamental_told v i k).reactive
 
 -- the exact sum or difference d is more than one part in 2^52 of s, the sizes of its two products added up
 abbrev pub ClearOfZero : ℕ → ℤ → Type 0
@@ -52,8 +53,8 @@ ClearOfZero s d = s < 2 ^ 52 * nat_abs d
 abbrev pub RightSign : Type 0
 RightSign =
     (v i : List Float) (x y : ℕ → ℤ) (k : ℕ) → LightCall v i x y k
-    → (ClearOfZero (active_size x y (length v) k) (exact_active x y (length v) k) → SignOf (exact_active x y (length v) k) (fundamental_answer v i k).power.active)
-    × (ClearOfZero (reactive_size x y (length v) k) (exact_reactive x y (length v) k) → SignOf (exact_reactive x y (length v) k) (fundamental_answer v i k).power.reactive)
+    → (ClearOfZero (active_size x y (length v) k) (exact_active x y (length v) k) → SignOf (exact_active x y (length v) k) (fundamental_told v i k).active)
+    × (ClearOfZero (reactive_size x y (length v) k) (exact_reactive x y (length v) k) → SignOf (exact_reactive x y (length v) k) (fundamental_told v i k).reactive)
 
 -- ---- every capture of codes: the sums may be rounded too
 
@@ -63,6 +64,6 @@ Beyond n d = n * n * n * 2 ^ 40 < nat_abs d
 
 abbrev pub RightBeyond : Type 0
 RightBeyond =
-    (v i : List Float) (x y : ℕ → ℤ) (k : ℕ) → Capture v x → Capture i y → (fundamental_answer v i k).outcome ≡ Done
-    → (Beyond (length v) (exact_active x y (length v) k) → SignOf (exact_active x y (length v) k) (fundamental_answer v i k).power.active)
-    × (Beyond (length v) (exact_reactive x y (length v) k) → SignOf (exact_reactive x y (length v) k) (fundamental_answer v i k).power.reactive)
+    (v i : List Float) (x y : ℕ → ℤ) (k : ℕ) → Capture v x → Capture i y → ended (fundamental_answer v i k) ≡ done
+    → (Beyond (length v) (exact_active x y (length v) k) → SignOf (exact_active x y (length v) k) (fundamental_told v i k).active)
+    × (Beyond (length v) (exact_reactive x y (length v) k) → SignOf (exact_reactive x y (length v) k) (fundamental_told v i k).reactive)

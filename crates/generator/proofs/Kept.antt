@@ -2,11 +2,12 @@
 use mathlib.Core.Path.{◌≡◌, refl}
 use mathlib.Core.Bool.{Bool, true, false, cond}
 use mathlib.Core.List.{List}
+use Rattle.std.proofs.Common.{Err}
 use lib.ListN.{length}
 use lib.Ieee.{Float}
-use Rattle.answers.specs.Numbers.{too_long}
+use Rattle.answers.specs.Numbers.{too_long, done}
 use Rattle.answers.specs.Left.{left}
-use Rattle.answers.specs.declared.Outcome.TheVariants.{Done, TooLong}
+use Rattle.answers.specs.declared.Refusal.TheVariants.{TooLong}
 use Rattle.laws.specs.Filled.{filled}
 use Rattle.laws.proofs.Filling.{filled_length}
 use Rattle.generator.specs.declared.Wave.{Wave}
@@ -26,6 +27,6 @@ pub generated_length : (s : Shape) (xs : List Float) → length (generated s xs)
 unfolding generated
 generated_length s xs = either (too_long (length xs))
   where
-    either : (b : Bool) → length (cond b (left TooLong xs) (left Done (filled (sample_at s (length xs)) (length xs) xs))).places ≡ length xs
+    either : (b : Bool) → length (cond b (left (Err TooLong) xs) (left done (filled (sample_at s (length xs)) (length xs) xs))).places ≡ length xs
     either true = refl
     either false = filled_length (sample_at s (length xs)) (length xs) xs

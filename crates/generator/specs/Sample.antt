@@ -1,12 +1,11 @@
 -- What the generator puts at each place. 01, item 8 only names the waves, so the Rust decides: its operations in its order, each rounded to an f32.
 -- Definitions only.
-use Rattle.std.specs.Prelude.{ℕ, cond, List, length, Float}
+use Rattle.std.specs.Prelude.{ℕ, cond, List, length, Float, Err}
 use Rattle.std.specs.Float.{binary32}
 use Rattle.std.specs.Float.Ieee.{add, sub, mul, div, rem, lt, le, of_bits}
-use Rattle.answers.specs.Numbers.{too_long}
+use Rattle.answers.specs.Numbers.{too_long, Outcome, done}
 use Rattle.answers.specs.Left.{Left, left}
-use Rattle.answers.specs.declared.Outcome.{Outcome}
-use Rattle.answers.specs.declared.Outcome.TheVariants.{Done, TooLong}
+use Rattle.answers.specs.declared.Refusal.TheVariants.{TooLong}
 use Rattle.laws.specs.Filled.{filled}
 use Rattle.laws.specs.Literals.{zero32, one32, count32}
 use Rattle.generator.specs.declared.Wave.{Wave}
@@ -89,4 +88,4 @@ sample_at s n i = of_wave s.wave s (count32 n) (count32 i)
 
 -- 01, row 3: "a slice of samples [..] filled by the generator, has more than 65,536 places", and "Nothing but 0 writes to what was lent"; else every place has its sample
 unfoldable pub generated : Shape → List Float → Left Outcome (List Float)
-generated s xs = cond (too_long (length xs)) (left TooLong xs) (left Done (filled (sample_at s (length xs)) (length xs) xs))
+generated s xs = cond (too_long (length xs)) (left (Err TooLong) xs) (left done (filled (sample_at s (length xs)) (length xs) xs))

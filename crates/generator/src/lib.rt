@@ -9,7 +9,7 @@ ghost use Rattle.answers.specs.Left.{left};
 ghost use Rattle.generator.specs.Wave.{wave_number, wave_of};
 ghost use Rattle.generator.specs.Sample.{shape_of, generated};
 
-use answers::{LONGEST, Outcome};
+use answers::{LONGEST, Refusal};
 
 // The waves, by the Rust's names: the cases of its SignalType that are kept.
 #[derive(Clone, Copy, Drop)]
@@ -31,27 +31,31 @@ pub struct Shape {
 }
 
 // The number by which a wave crosses the C boundary.
-pub fn wave_number(wave: Wave) -> u8
-    ensures { result ≡ wave_number wave }
-{
-    match wave {
-        Wave::DC => 0,
-        Wave::PWM => 1,
-        Wave::Triangular => 2,
-        Wave::Sawtooth => 3,
+impl From<Wave> for u8 {
+    ghost from_gives = { λ wave n. n ≡ wave_number wave };
+
+    fn from(wave: Wave) -> u8 {
+        match wave {
+            Wave::DC => 0,
+            Wave::PWM => 1,
+            Wave::Triangular => 2,
+            Wave::Sawtooth => 3,
+        }
     }
 }
 
 // The wave with a number; any other number is DC.
-#[tactic(auto, unfolding(crate::specs::Wave::wave_of))]
-pub fn wave_of(n: u8) -> Wave
-    ensures { result ≡ wave_of n }
-{
-    match n {
-        1 => Wave::PWM,
-        2 => Wave::Triangular,
-        3 => Wave::Sawtooth,
-        _ => Wave::DC,
+impl From<u8> for Wave {
+    ghost from_gives = { λ n wave. wave ≡ wave_of n };
+
+    #[tactic(auto, unfolding(crate::specs::Wave::wave_of))]
+    fn from(n: u8) -> Wave {
+        match n {
+            1 => Wave::PWM,
+            2 => Wave::Triangular,
+            3 => Wave::Sawtooth,
+            _ => Wave::DC,
+        }
     }
 }
 
@@ -64,12 +68,12 @@ pub fn generate_samples(
     frequency: f32,
     duty_cycle: f32,
     samples: &mut [f32],
-) -> Outcome
+) -> Result<(), Refusal>
     ensures { left result samples.new ≡ generated (shape_of wave amplitude phase frequency duty_cycle) samples.old }
 {
     let n = samples.len();
     if LONGEST < n {
-        return Outcome::TooLong;
+        return Err(Refusal::TooLong);
     }
     let shape = Shape {
         wave,
@@ -84,5 +88,5 @@ pub fn generate_samples(
         samples[i] = parts::sample_at(shape, n, i);
         i += 1;
     }
-    Outcome::Done
+    Ok(())
 }

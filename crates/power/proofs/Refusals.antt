@@ -1,41 +1,41 @@
 -- Each number of 01's table is given exactly when the table says: of any two slices one of the three premises holds, and no two of them hold together.
 -- What a refusal returns is zero throughout. Assumes nothing.
-use Rattle.std.proofs.Common.{◌≡◌, ℕ, ◌<◌, ◌≤◌, Bool, true, false, not, eqb, ◌⊎◌, List, length, sym, refl, ap, ◌∙◌, inl, inr, arith, ltb-false, le-ltb, lt-ltb, eq-eqb, ne_eqb, eqb-true}
+use Rattle.std.proofs.Common.{◌≡◌, ℕ, ◌<◌, ◌≤◌, Bool, true, false, not, eqb, ◌⊎◌, List, length, Ok, Err, sym, refl, ap, inl, inr, arith, ltb-false, le-ltb, lt-ltb, eq-eqb, ne_eqb, eqb-true}
 use lib.Ieee.{Float}
-use Rattle.answers.specs.declared.Outcome.{Outcome}
-use Rattle.answers.specs.declared.Outcome.TheVariants.{Done, LengthsDiffer, TooLong}
-use Rattle.answers.specs.Numbers.{number_of, if_done, longest, too_long, refuse}
-use Rattle.answers.proofs.Ended.{if_refused, if_done_lem}
+use Rattle.answers.specs.declared.Refusal.{Refusal}
+use Rattle.answers.specs.declared.Refusal.TheVariants.{LengthsDiffer, TooLong}
+use Rattle.answers.specs.Numbers.{number_of, done, longest, too_long, refuse}
+use Rattle.answers.proofs.Ended.{given_refused}
 use Rattle.power.specs.declared.Power.{Power}
-use Rattle.power.specs.Power.{capture_sums, record_of, zero_power, answered, power_of, outcome_of, answer_of}
+use Rattle.power.specs.Power.{capture_sums, record_of, zero_power, power_of, outcome_of, answer_of}
 
 -- ---- how a call with n volts and m amps ends
-pub long_volts : (n m : ℕ) → longest < n → outcome_of n m ≡ TooLong
+pub long_volts : (n m : ℕ) → longest < n → outcome_of n m ≡ Err TooLong
 unfolding outcome_of
 long_volts n m h = rw (lt-ltb longest n h)
 
-pub long_amps : (n m : ℕ) → longest < m → outcome_of n m ≡ TooLong
+pub long_amps : (n m : ℕ) → longest < m → outcome_of n m ≡ Err TooLong
 unfolding outcome_of
 long_amps n m h = rw (lt-ltb longest m h) (either (too_long n))
   where
-    either : (b : Bool) → refuse b TooLong TooLong ≡ TooLong
+    either : (b : Bool) → refuse b TooLong (Err TooLong) ≡ Err TooLong
     either true = refl
     either false = refl
 
-pub differing : (n m : ℕ) → n ≤ longest → m ≤ longest → (n ≡ m → ⊥) → outcome_of n m ≡ LengthsDiffer
+pub differing : (n m : ℕ) → n ≤ longest → m ≤ longest → (n ≡ m → ⊥) → outcome_of n m ≡ Err LengthsDiffer
 unfolding outcome_of
 differing n m a b d = simp (le-ltb _ _ a, le-ltb _ _ b, ne_eqb _ _ d)
 
-pub taken : (n m : ℕ) → n ≤ longest → m ≤ longest → n ≡ m → outcome_of n m ≡ Done
+pub taken : (n m : ℕ) → n ≤ longest → m ≤ longest → n ≡ m → outcome_of n m ≡ done
 unfolding outcome_of
 taken n m a b e = simp (le-ltb _ _ a, le-ltb _ _ b, eq-eqb _ _ e)
 
 -- and where it is done
-pub together : (n m d : ℕ) (o : Outcome) → o ≡ outcome_of n m → d ≡ number_of o → d ≡ 0 → (n ≤ longest) × (n ≡ m)
+pub together : (n m : ℕ) (u : Unit {0}) → outcome_of n m ≡ Ok u → (n ≤ longest) × (n ≡ m)
 unfolding outcome_of
-together n m d o e f z = go (too_long n) (too_long m) (eqb n m) refl refl (sym (ap number_of e) ∙ sym f ∙ z)
+together n m u e = go (too_long n) (too_long m) (eqb n m) refl refl (ap number_of e)
   where
-    go : (a b c : Bool) → too_long n ≡ a → eqb n m ≡ c → number_of (refuse a TooLong (refuse b TooLong (refuse (not c) LengthsDiffer Done))) ≡ 0 → (n ≤ longest) × (n ≡ m)
+    go : (a b c : Bool) → too_long n ≡ a → eqb n m ≡ c → number_of (refuse a TooLong (refuse b TooLong (refuse (not c) LengthsDiffer done))) ≡ 0 → (n ≤ longest) × (n ≡ m)
     go true b c p q e = absurd (omega arith)
     go false true c p q e = absurd (omega arith)
     go false false false p q e = absurd (omega arith)
@@ -52,28 +52,23 @@ some_pairs v i h = simp (ne_eqb _ _ h)
 
 -- ---- what a call answers
 module _ (v i : List Float) where
-  answer_of_lem : (o : Outcome) → outcome_of (length v) (length i) ≡ o → answer_of v i ≡ answered o (if_done o (power_of v i) zero_power)
+  pub refused : (r : Refusal) → outcome_of (length v) (length i) ≡ Err r → Err r ≡ answer_of v i
   unfolding answer_of
-  answer_of_lem o e = ap (λ (o : Outcome). answered o (if_done o (power_of v i) zero_power)) e
+  refused r e = given_refused _ (power_of v i) r e
 
-  -- from the number of the outcome, as the code asks it
-  pub refused : (o : Outcome) (d : ℕ) → o ≡ outcome_of (length v) (length i) → d ≡ number_of o → (d ≡ 0 → ⊥) → answered o zero_power ≡ answer_of v i
-  refused o d e f n = sym (answer_of_lem o (sym e) ∙ ap (answered o) (if_refused o (power_of v i) zero_power d f n))
-
-  pub measured : (o : Outcome) (d : ℕ) (w : Power) → o ≡ outcome_of (length v) (length i) → d ≡ number_of o → d ≡ 0 → w ≡ power_of v i → answered o w ≡ answer_of v i
-  measured o d w e f z h =
-      ap (answered o) h ∙ sym (answer_of_lem o (sym e) ∙ ap (answered o) (if_done_lem o (power_of v i) zero_power d f z))
+  pub measured : (u : Unit {0}) (w : Power) → outcome_of (length v) (length i) ≡ Ok u → w ≡ power_of v i → Ok w ≡ answer_of v i
+  unfolding answer_of
+  measured u w e h = rw (h, e) refl
 
 pub record Refusals (v i : List Float) : Type 0 where
-  pub too_long_lem : (longest < length v) ⊎ (longest < length i) → answer_of v i ≡ answered TooLong zero_power
-  pub lengths_differ : length v ≤ longest → length i ≤ longest → (length v ≡ length i → ⊥) → answer_of v i ≡ answered LengthsDiffer zero_power
-  pub done : length v ≤ longest → length i ≤ longest → length v ≡ length i → answer_of v i ≡ answered Done (power_of v i)
+  pub too_long_lem : (longest < length v) ⊎ (longest < length i) → answer_of v i ≡ Err TooLong
+  pub lengths_differ : length v ≤ longest → length i ≤ longest → (length v ≡ length i → ⊥) → answer_of v i ≡ Err LengthsDiffer
+  pub done : length v ≤ longest → length i ≤ longest → length v ≡ length i → answer_of v i ≡ Ok (power_of v i)
 
 pub refusals : (v i : List Float) → Refusals v i
-unfolding if_done
 refusals v i =
     record {
-      too_long_lem = λ c. answer_of_lem v i TooLong (elim c [ inl h ↦ long_volts _ _ h | inr h ↦ long_amps _ _ h ]);
-      lengths_differ = λ a b d. answer_of_lem v i LengthsDiffer (differing _ _ a b d);
-      done = λ a b e. answer_of_lem v i Done (taken _ _ a b e);
+      too_long_lem = λ c. sym (refused v i TooLong (elim c [ inl h ↦ long_volts _ _ h | inr h ↦ long_amps _ _ h ]));
+      lengths_differ = λ a b d. sym (refused v i LengthsDiffer (differing _ _ a b d));
+      done = λ a b e. sym (measured v i tt (power_of v i) (taken _ _ a b e) refl);
     }

@@ -1,15 +1,15 @@
 -- What `compute_power` answers (01, item 4), operation by operation. Each operation on f32 (binary32) or f64 (binary64) is IEEE 754's: the exact result,
 -- rounded once to the nearest, ties to even (`lib.Ieee`). An f32 is an f64 as it stands. Definitions only.
-use Rattle.std.specs.Prelude.{ℕ, zero, suc, cond, not, List, length, pos, ◌==◌, from_bits, slice_index_or, Float}
+use Rattle.std.specs.Prelude.{ℕ, zero, suc, cond, not, List, length, pos, ◌==◌, from_bits, slice_index_or, Result, Float}
 use Rattle.std.specs.Float.{nan, binary32, binary64}
 use Rattle.std.specs.Float.Ieee.{add, sub, mul, div, lt, of_int}
 use Rattle.number.specs.Number.{narrow, narrowed_root}
-use Rattle.answers.specs.declared.Outcome.{Outcome}
-use Rattle.answers.specs.declared.Outcome.TheVariants.{Done, LengthsDiffer, TooLong}
-use Rattle.answers.specs.Numbers.{if_done, too_long, refuse}
+use Rattle.answers.specs.declared.Refusal.{Refusal}
+use Rattle.answers.specs.declared.Refusal.TheVariants.{LengthsDiffer, TooLong}
+use Rattle.answers.specs.Numbers.{Outcome, done, too_long, refuse}
+use Rattle.answers.specs.Answers.{given}
 use Rattle.laws.specs.Quotients.{ratio_or_zero}
 use Rattle.power.specs.declared.Power.{Power}
-use Rattle.power.specs.declared.PowerAnswer.{PowerAnswer}
 use Rattle.power.specs.declared.parts.Sums.{Sums}
 
 -- ---- the sums
@@ -60,22 +60,17 @@ record_of t = record_with (active_of t) (apparent_of t)
 abbrev pub zero_power : Power
 zero_power = record { p = from_bits binary32 0; nonactive = from_bits binary32 0; s = from_bits binary32 0; pf = from_bits binary32 0 }
 
-abbrev pub answered : Outcome → Power → PowerAnswer
-answered o r = record { outcome = o; power = r }
-
 -- 01, "An empty pair of slices answers the all-zero record"
 unfoldable pub power_of : List Float → List Float → Power
 power_of v i = cond (length v == 0) zero_power (record_of (capture_sums v i (length v)))
 
 -- how a call with n volts and m amps ends. 01, the table of numbers, and "Where several hold: 3, 1": a slice too long, then lengths that differ
 unfoldable pub outcome_of : ℕ → ℕ → Outcome
-outcome_of n m = refuse (too_long n) TooLong (refuse (too_long m) TooLong (refuse (not (n == m)) LengthsDiffer Done))
+outcome_of n m = refuse (too_long n) TooLong (refuse (too_long m) TooLong (refuse (not (n == m)) LengthsDiffer done))
 
--- 01, "What a refusal returns is zero throughout"
-unfoldable pub answer_of : List Float → List Float → PowerAnswer
-answer_of v i =
-    let o = outcome_of (length v) (length i) in
-    answered o (if_done o (power_of v i) zero_power)
+-- 01, "What a refusal returns is zero throughout": the C boundary tells a refusal with `zero_power` (`told` of `answers`)
+unfoldable pub answer_of : List Float → List Float → Result Power Refusal
+answer_of v i = given (outcome_of (length v) (length i)) (power_of v i)
 
 -- ---- for the code alone: no public contract cites what follows
 

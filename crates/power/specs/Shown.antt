@@ -1,19 +1,20 @@
 -- Examples, computed from the definitions: what infinities in the voltage and the current do to p, nonactive, s and pf. (The laws are in proofs/Incident.antt.) Assumes nothing.
-use Rattle.std.specs.Prelude.{◌≡◌, ℕ, List, [], ◌∷◌, map, refl, Float}
+use Rattle.std.specs.Prelude.{◌≡◌, ℕ, List, [], ◌∷◌, map, refl, Result, Ok, Err, Float}
 use Rattle.std.specs.Float.{binary32}
 use Rattle.std.specs.Float.Ieee.{add, sub, mul, div, neg, lt, of_int, of_bits}
-use Rattle.answers.specs.Numbers.{if_done}
+use Rattle.answers.specs.declared.Refusal.{Refusal}
 use Rattle.laws.specs.Quotients.{ratio_or_zero}
 use Rattle.number.specs.Number.{narrow, root, narrowed_root}
-use Rattle.power.specs.declared.PowerAnswer.{PowerAnswer}
+use Rattle.power.specs.declared.Power.{Power}
 use Rattle.power.specs.Power.{sum_to, mean64, active_of, apparent_of, above_zero, nonactive_of, record_of, power_of, outcome_of, answer_of}
 
 -- by bit patterns: those of 1, 2, plus and minus infinity and a NaN are 3F800000, 40000000, 7F800000, FF800000 and 7FC00000
 abbrev floats : List ℕ → List Float
 floats bits = map (of_bits binary32) bits
 
-abbrev figures : PowerAnswer → List Float
-figures a = a.power.p ∷ a.power.nonactive ∷ a.power.s ∷ a.power.pf ∷ []
+abbrev figures : Result Power Refusal → List Float
+figures (Ok w) = w.p ∷ w.nonactive ∷ w.s ∷ w.pf ∷ []
+figures (Err r) = []
 
 -- volts, amps, and p, nonactive, s and pf
 pub record Row : Type 0 where
@@ -68,5 +69,5 @@ rows =
     ∷ []
 
 pub rows_hold : map (λ (r : Row). figures (answer_of (floats r.volts) (floats r.amps))) rows ≡ map (λ (r : Row). floats r.powers) rows
-unfolding if_done answer_of outcome_of power_of record_of sum_to mean64 active_of narrowed_root apparent_of ratio_or_zero above_zero nonactive_of narrow root add sub mul div neg lt of_int of_bits
+unfolding answer_of outcome_of power_of record_of sum_to mean64 active_of narrowed_root apparent_of ratio_or_zero above_zero nonactive_of narrow root add sub mul div neg lt of_int of_bits
 rows_hold = refl

@@ -6,7 +6,7 @@ ghost use Rattle.std.specs.Prelude.{◌≡◌, ◌≤◌, length};
 ghost use Rattle.answers.specs.Numbers.{longest};
 ghost use Rattle.power.specs.Power.{nan_power, power_of, answer_of};
 
-use answers::Outcome;
+use answers::Refusal;
 
 mod blocks;
 pub mod parts;
@@ -21,20 +21,13 @@ pub struct Power {
     pub pf: f32,
 }
 
-// What an empty pair of slices and every refusal answer.
+// What an empty pair of slices answers; the C boundary shows it at a refusal too.
 pub const ZERO: Power = Power {
     p: 0.0,
     nonactive: 0.0,
     s: 0.0,
     pf: 0.0,
 };
-
-// How the call ended, and the record.
-#[derive(Clone, Copy)]
-pub struct PowerAnswer {
-    pub outcome: Outcome,
-    pub power: Power,
-}
 
 // Of a capture that holds a NaN: every sum with that sample is a NaN, and so are p and s.
 fn of_nan() -> Power
@@ -67,18 +60,10 @@ fn of_capture(voltage: &[f32], current: &[f32]) -> Power
 }
 
 // Refused with 3 where a slice is longer than LONGEST, and then with 1 where the lengths differ. The sample rate is not used.
-pub fn compute_power(voltage: &[f32], current: &[f32], sample_rate: f32) -> PowerAnswer
+#[tactic(auto, using(crate::proofs::Refusals::together, crate::proofs::Refusals::refused, crate::proofs::Refusals::measured))]
+pub fn compute_power(voltage: &[f32], current: &[f32], sample_rate: f32) -> Result<Power, Refusal>
     ensures { result ≡ answer_of voltage.now current.now }
 {
-    let outcome = parts::judged(voltage.len(), current.len());
-    if answers::number_of(outcome) != 0 {
-        return PowerAnswer {
-            outcome,
-            power: ZERO,
-        };
-    }
-    PowerAnswer {
-        outcome,
-        power: of_capture(voltage, current),
-    }
+    parts::judged(voltage.len(), current.len())?;
+    Ok(of_capture(voltage, current))
 }

@@ -5,22 +5,22 @@ ghost use Rattle.answers.specs.Numbers.{longest};
 ghost use Rattle.laws.specs.Quotients.{ratio_or_zero};
 
 use crate::Power;
-use answers::{LONGEST, Outcome};
+use answers::{LONGEST, Refusal};
 
 // The refusals in their order, of so many volts and amps: with 3 where a slice is longer than LONGEST, and then with 1 where the lengths differ.
-pub fn judged(volts: usize, amps: usize) -> Outcome
+pub fn judged(volts: usize, amps: usize) -> Result<(), Refusal>
     ensures { result ≡ outcome_of volts amps }
 {
     if volts > LONGEST {
-        return Outcome::TooLong;
+        return Err(Refusal::TooLong);
     }
     if amps > LONGEST {
-        return Outcome::TooLong;
+        return Err(Refusal::TooLong);
     }
     if volts != amps {
-        return Outcome::LengthsDiffer;
+        return Err(Refusal::LengthsDiffer);
     }
-    Outcome::Done
+    Ok(())
 }
 
 // The sums over `count` pairs: of the products, of the voltage's squares and of the current's.

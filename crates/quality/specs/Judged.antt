@@ -1,10 +1,8 @@
--- For the code alone: no public contract cites this file. The three ways in which a call goes on, by a type of the code's. Definitions only.
-use Rattle.std.specs.Prelude.{ℕ, cond}
-use Rattle.answers.specs.Numbers.{too_long}
-use Rattle.quality.specs.declared.verdict.Verdict.{Verdict}
-use Rattle.quality.specs.declared.verdict.Verdict.TheVariants.{Refused, Unusable, Usable}
-use Rattle.quality.specs.Quality.{unusable_bin}
+-- For the code alone: no public contract cites this file. The three ways in which a call goes on. Definitions only.
+use Rattle.std.specs.Prelude.{ℕ, Bool, true, false, Result}
+use Rattle.answers.specs.declared.Refusal.{Refusal}
+use Rattle.quality.specs.Quality.{for_bin}
 
--- of n places and the bin b; proofs/Verdicts.antt says what each case means for the answers
-unfoldable pub judged : ℕ → ℕ → Verdict
-judged n b = cond (too_long n) Refused (cond (unusable_bin n b) Unusable Usable)
+-- of n places and the bin b: refused, or whether the bin is usable; proofs/Verdicts.antt says what each case means for the answers
+unfoldable pub judged : ℕ → ℕ → Result Bool Refusal
+judged n b = for_bin n b false true

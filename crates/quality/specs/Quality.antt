@@ -1,26 +1,26 @@
 -- What the five calls of `quality` answer, operation by operation (01, item 7). Definitions only.
-use Rattle.std.specs.Prelude.{ℕ, ◌-◌, Bool, cond, ◌||◌, List, length, ◌==◌, from_bits, nat_le, slice_index_or, Float}
+use Rattle.std.specs.Prelude.{ℕ, ◌-◌, Bool, cond, ◌||◌, List, length, ◌==◌, from_bits, nat_le, slice_index_or, Result, Ok, Err, Option, Some, None, Float}
 use Rattle.std.specs.Float.{nan, binary32, binary64}
 use Rattle.std.specs.Float.Ieee.{sub, div, lt}
-use Rattle.answers.specs.declared.Measured.{Measured}
-use Rattle.answers.specs.declared.Outcome.TheVariants.{Done, TooLong}
+use Rattle.answers.specs.declared.Refusal.{Refusal}
+use Rattle.answers.specs.declared.Refusal.TheVariants.{TooLong}
 use Rattle.answers.specs.Numbers.{too_long}
-use Rattle.answers.specs.Measured.{measured}
 use Rattle.laws.specs.Literals.{zero32, zero64, tiny32}
 use Rattle.laws.specs.Quotients.{percent_of}
 use Rattle.laws.specs.Samples.{higher, square_of}
 use Rattle.laws.specs.Walks.{pairs}
 use Rattle.number.specs.Number.{narrowed_root}
-use Rattle.quality.specs.declared.Quotient.TheVariants as Q
-use Rattle.quality.specs.declared.QuotientAnswer.{QuotientAnswer}
 use Rattle.quality.specs.declared.Sfdr.{Sfdr}
 use Rattle.quality.specs.declared.Sfdr.TheVariants as S
-use Rattle.quality.specs.declared.SfdrAnswer.{SfdrAnswer}
 use Rattle.quality.specs.Powers.{power_in}
 
 -- ---- 01, item 7: "a bin of 0 or past the end is unusable", the bin b of n places
 unfoldable pub unusable_bin : ℕ → ℕ → Bool
 unusable_bin n b = b == 0 || nat_le n b
+
+-- what a call answers of n places and the bin b, by whether the bin is unusable. 01, row 3: 3 for more than 65,536 places, whatever the bin
+abbrev pub for_bin : {A : Type 0} → ℕ → ℕ → A → A → Result A Refusal
+for_bin n b unusable usable = cond (too_long n) (Err TooLong) (Ok (cond (unusable_bin n b) unusable usable))
 
 -- ---- distortion in percent: the root of the harmonics' power, narrowed, in percent of the fundamental; 0 for a fundamental below 1e-12.
 -- `compute_thd_from_spectrum` "sums every multiple of the fundamental", from order 2 on
@@ -28,9 +28,9 @@ unfoldable pub thd_of_spectrum : List Float → ℕ → Float
 thd_of_spectrum s b =
     cond (lt (slice_index_or s b nan) tiny32) zero32 (percent_of (narrowed_root (power_in s b 2)) (slice_index_or s b nan))
 
--- 01, row 3: 3 for more than 65,536 places, whatever the bin; else "a THD of 0.0 for a fundamental bin of 0 or past the end", which is no refusal
-unfoldable pub answer_thd : List Float → ℕ → Measured
-answer_thd s b = measured (length s) (cond (unusable_bin (length s) b) zero32 (thd_of_spectrum s b))
+-- 01, row 3, or else "a THD of 0.0 for a fundamental bin of 0 or past the end", which is no refusal
+unfoldable pub answer_thd : List Float → ℕ → Result Float Refusal
+answer_thd s b = for_bin (length s) b zero32 (thd_of_spectrum s b)
 
 -- ---- effective bits: 1.76 and 6.02 are the f32 nearest to them
 unfoldable pub enob_of : Float → Float
@@ -57,11 +57,9 @@ snr_of s b = over_noise (own_of s b) (sub binary64 (sub binary64 (total_power s)
 unfoldable pub sinad_of : List Float → ℕ → Float
 sinad_of s b = over_noise (own_of s b) (sub binary64 (total_power s) (own_of s b))
 
--- 01, row 3: 3 for more than 65,536 places, whatever the bin, and in a refusal "a quotient the ratio 0"; else "All three answer by name that a bin of 0 or past the end is unusable"
-unfoldable pub answer_quotient : (List Float → ℕ → Float) → List Float → ℕ → QuotientAnswer
-answer_quotient ratio s b =
-    cond (too_long (length s)) (record { outcome = TooLong; quotient = Q.Ratio zero64 })
-    (record { outcome = Done; quotient = cond (unusable_bin (length s) b) Q.UnusableBin (Q.Ratio (ratio s b)) })
+-- 01, row 3 (in a refusal "a quotient the ratio 0", told at the C boundary: Kinds.antt); else "All three answer by name that a bin of 0 or past the end is unusable": None
+unfoldable pub answer_quotient : (List Float → ℕ → Float) → List Float → ℕ → Result (Option Float) Refusal
+answer_quotient ratio s b = for_bin (length s) b None (Some (ratio s b))
 
 -- ---- the fundamental over the largest spur
 
@@ -77,8 +75,6 @@ spur_of s b = pairs (spur_at b) zero32 s (length s - 1)
 unfoldable pub sfdr_of : List Float → ℕ → Sfdr
 sfdr_of s b = cond (lt tiny32 (spur_of s b)) (S.Ratio (div binary32 (slice_index_or s b nan) (spur_of s b))) S.NoSpur
 
--- as `answerQuotient`, for the quotient of `compute_sfdr`
-unfoldable pub answer_sfdr : List Float → ℕ → SfdrAnswer
-answer_sfdr s b =
-    cond (too_long (length s)) (record { outcome = TooLong; quotient = S.Ratio zero32 })
-    (record { outcome = Done; quotient = cond (unusable_bin (length s) b) S.UnusableBin (sfdr_of s b) })
+-- as `answer_quotient`, for the quotient of `compute_sfdr`
+unfoldable pub answer_sfdr : List Float → ℕ → Result Sfdr Refusal
+answer_sfdr s b = for_bin (length s) b S.UnusableBin (sfdr_of s b)

@@ -1,5 +1,5 @@
 // The limit of 65,536: codes and captures that are too long for a line, and are made here. Voltage codes are 7 and current codes 8, first numbers 0.
-use crate::of_codes;
+use crate::{of_capture, of_codes};
 use answers::LONGEST;
 use replaying::lists::{MOST, first, first_mut};
 use replaying::read::behind;
@@ -30,8 +30,8 @@ fn same_pair(line: &[u8], i: usize, volts: &[i16], amps: &[i16]) -> bool {
 fn put_text(text: &mut [u8]) {
     let full = FULL.min(text.len());
     let (full, one_more) = text.split_at_mut(full);
-    writing::write_capture(&[7; LONGEST], &[8; LONGEST], 0, full);
-    writing::write_capture(&[7; 1], &[8; 1], 4096, one_more);
+    let _ = writing::write_capture(&[7; LONGEST], &[8; LONGEST], 0, full);
+    let _ = writing::write_capture(&[7; 1], &[8; 1], 4096, one_more);
 }
 
 fn read_into(line: &[u8], text: &[u8], volts: &mut [i16], amps: &mut [i16]) -> Said {
@@ -40,10 +40,11 @@ fn read_into(line: &[u8], text: &[u8], volts: &mut [i16], amps: &mut [i16]) -> S
         first_mut(volts, read::size(line, 5)),
         first_mut(amps, read::size(line, 6)),
     );
-    let right = r.line == read::size(line, 7)
-        && r.pairs == read::size(line, 8)
+    let (outcome, at, pairs) = of_capture::read_so(r);
+    let right = at == read::size(line, 7)
+        && pairs == read::size(line, 8)
         && [9, 11, 13].iter().all(|i| same_pair(line, *i, volts, amps));
-    said::where_right(right, r.outcome)
+    said::where_right(right, outcome)
 }
 
 // The length of the text, the rooms, the line and the pairs answered, three places and what stands there afterwards. Before, 5 and 6 stand in the rooms.
@@ -62,9 +63,10 @@ fn write_long(line: &[u8], text: &mut [u8]) -> Said {
         0,
         first_mut(text, read::size(line, 6)),
     );
-    let right = r.bytes == read::size(line, 7)
+    let (outcome, bytes) = of_capture::written_so(r);
+    let right = bytes == read::size(line, 7)
         && [8, 10, 12].iter().all(|i| same_byte(line, *i, text));
-    said::where_right(right, r.outcome)
+    said::where_right(right, outcome)
 }
 
 // ---- the cases

@@ -15,5 +15,6 @@ pub fn call(line: &[u8]) -> Said {
         first_mut(&mut text, room),
     );
     let right = packed::same_text(line, 6, room, &text);
-    of_capture::code(r.outcome, r.bytes, 0, right)
+    let (outcome, bytes) = of_capture::written_so(r);
+    of_capture::code(outcome, bytes, 0, right)
 }

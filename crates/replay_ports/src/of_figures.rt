@@ -32,12 +32,17 @@ fn record(line: &[u8]) -> TimeFigures {
 
 // The wave, the amplitude, the frequency, the earlier record; the counts answered.
 pub fn call(line: &[u8], a: &[f32]) -> Said {
-    let r = figures::calculate_time_figures(
-        generator::wave_of(read::byte(line, 4)),
+    let earlier = record(line);
+    let answer = figures::calculate_time_figures(
+        read::byte(line, 4).into(),
         read::float(line, 5),
         read::float(line, 6),
-        record(line),
+        earlier,
         a,
     );
-    records::counted(line, 28, r.outcome, r.figures, &records::figures(r.figures))
+    let (outcome, figures) = match answer {
+        Ok(figures) => (Ok(()), figures),
+        Err(refusal) => (Err(refusal), earlier),
+    };
+    records::counted(line, 28, outcome, figures, &records::figures(figures))
 }

@@ -1,5 +1,4 @@
 // Port readings: from a cleared port six settings, each a number and four words for its arguments, and then one reading.
-use answers::Outcome;
 use port::Port;
 use replaying::read::behind;
 use replaying::records::reading_at;
@@ -69,7 +68,7 @@ fn reading(r: Option<f32>) -> Said {
 }
 
 fn present(x: f32) -> Said {
-    said::floats(Outcome::Done, &[1.0, x])
+    said::floats(&[1.0, x])
 }
 
 fn get(port: Port, which: u32, n: u8) -> Said {

@@ -6,7 +6,7 @@ use replaying::{read, records, said};
 
 fn shaped(line: &[u8], out: &mut [f32]) -> Said {
     let a = sequences::shaped(
-        generator::wave_of(read::byte(line, 4)),
+        read::byte(line, 4).into(),
         read::float(line, 5),
         read::float(line, 6),
         read::byte(line, 7),
@@ -19,7 +19,7 @@ fn shaped(line: &[u8], out: &mut [f32]) -> Said {
 
 fn emptied(line: &[u8], out: &mut [f32]) -> Said {
     let a = sequences::emptied(
-        generator::wave_of(read::byte(line, 4)),
+        read::byte(line, 4).into(),
         read::float(line, 5),
         read::float(line, 6),
         read::byte(line, 7),
@@ -31,21 +31,23 @@ fn emptied(line: &[u8], out: &mut [f32]) -> Said {
 
 fn measured(line: &[u8], out: &mut [f32]) -> Said {
     let answer = sequences::measured(
-        generator::wave_of(read::byte(line, 4)),
+        read::byte(line, 4).into(),
         read::float(line, 5),
         read::float(line, 6),
         read::byte(line, 7),
         read::float(line, 8),
         out,
     );
-    let metrics = answer.metrics;
-    records::counted(
-        line,
-        9,
-        answer.outcome,
-        metrics.figures,
-        &of_signal::metrics(metrics),
-    )
+    match answer {
+        Ok(metrics) => records::counted(
+            line,
+            9,
+            Ok(()),
+            metrics.figures,
+            &of_signal::metrics(metrics),
+        ),
+        Err(refusal) => said::refused(refusal),
+    }
 }
 
 fn powered(line: &[u8], out: &mut [f32]) -> Said {

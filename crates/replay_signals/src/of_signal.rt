@@ -11,7 +11,7 @@ use signal::{Answer, Metrics, State};
 
 fn made_new(line: &[u8], out: &mut [f32]) -> Answer {
     signal::new(
-        generator::wave_of(read::byte(line, 4)),
+        read::byte(line, 4).into(),
         read::float(line, 5),
         read::float(line, 6),
         read::byte(line, 8),

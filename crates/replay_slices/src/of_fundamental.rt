@@ -4,6 +4,8 @@ use replaying::{read, said};
 
 pub fn call(line: &[u8], a: &[f32], b: &[f32]) -> Said {
     let bin = read::long(line, 4) as usize;
-    let r = fundamental::fundamental_power(a, b, bin);
-    said::floats(r.outcome, &[r.power.active, r.power.reactive])
+    match fundamental::fundamental_power(a, b, bin) {
+        Ok(power) => said::floats(&[power.active, power.reactive]),
+        Err(refusal) => said::refused(refusal),
+    }
 }

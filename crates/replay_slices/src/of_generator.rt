@@ -3,7 +3,7 @@ use replaying::said::Said;
 use replaying::{read, said};
 
 pub fn call(line: &[u8], out: &mut [f32]) -> Said {
-    let wave = generator::wave_of(read::byte(line, 4));
+    let wave = read::byte(line, 4).into();
     let amplitude = read::float(line, 5);
     let phase = read::float(line, 6);
     let frequency = read::float(line, 7);

@@ -1,24 +1,26 @@
 // Distortion, effective bits and the quotients. Of a quotient the first float is 0 for a ratio, 1 for no spur, 2 for an unusable bin.
-use quality::{Quotient, QuotientAnswer, Sfdr, SfdrAnswer};
+use answers::Refusal;
+use quality::Sfdr;
 use replaying::said::Said;
 use replaying::{read, said};
 
 // The ratio is the f64.
-fn quotient(r: QuotientAnswer) -> Said {
-    match r.quotient {
-        Quotient::Ratio(x) => said::with_double(r.outcome, x),
-        Quotient::UnusableBin => said::floats(r.outcome, &[2.0]),
+fn quotient(r: Result<Option<f64>, Refusal>) -> Said {
+    match r {
+        Ok(Some(ratio)) => said::double(ratio),
+        Ok(None) => said::float(2.0),
+        Err(refusal) => said::refused(refusal),
     }
 }
 
 // The ratio is the second float.
-fn sfdr(r: SfdrAnswer) -> Said {
-    let floats = match r.quotient {
-        Sfdr::Ratio(x) => [0.0, x],
-        Sfdr::NoSpur => [1.0, 0.0],
-        Sfdr::UnusableBin => [2.0, 0.0],
-    };
-    said::floats(r.outcome, &floats)
+fn sfdr(r: Result<Sfdr, Refusal>) -> Said {
+    match r {
+        Ok(Sfdr::Ratio(x)) => said::floats(&[0.0, x]),
+        Ok(Sfdr::NoSpur) => said::float(1.0),
+        Ok(Sfdr::UnusableBin) => said::float(2.0),
+        Err(refusal) => said::refused(refusal),
+    }
 }
 
 pub fn call(line: &[u8], which: u32, a: &[f32]) -> Said {

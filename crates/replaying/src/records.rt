@@ -1,9 +1,9 @@
 // Records as they stand in a line or in what was answered.
 use crate::said::Said;
 use crate::{read, said};
-use answers::Outcome;
+use answers::Refusal;
 use figures::TimeFigures;
-use power::PowerAnswer;
+use power::Power;
 
 // A port's reading at the words i, whether there is a number, and i + 1.
 pub fn reading_at(line: &[u8], i: usize) -> Option<f32> {
@@ -11,21 +11,27 @@ pub fn reading_at(line: &[u8], i: usize) -> Option<f32> {
 }
 
 // p, nonactive, s and pf.
-pub fn power(r: PowerAnswer) -> Said {
-    said::floats(
-        r.outcome,
-        &[r.power.p, r.power.nonactive, r.power.s, r.power.pf],
-    )
+pub fn power(r: Result<Power, Refusal>) -> Said {
+    match r {
+        Ok(power) => said::floats(&[power.p, power.nonactive, power.s, power.pf]),
+        Err(refusal) => said::refused(refusal),
+    }
 }
 
 // The outcome and these, where the record's counts are the words i and i + 1; no f32 holds every count.
-pub fn counted(line: &[u8], i: usize, outcome: Outcome, r: TimeFigures, xs: &[f32]) -> Said {
+pub fn counted(
+    line: &[u8],
+    i: usize,
+    outcome: Result<(), Refusal>,
+    r: TimeFigures,
+    xs: &[f32],
+) -> Said {
     let not_numbers = read::word(line, i);
     let infinite = read::word(line, read::behind(i, 1));
     if not_numbers != r.not_numbers || infinite != r.infinite {
         return said::nothing();
     }
-    said::floats(outcome, xs)
+    said::with_floats(outcome, xs)
 }
 
 // The 19 time figures.

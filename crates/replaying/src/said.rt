@@ -1,7 +1,7 @@
 // What a call answers besides what it writes: its number of the table of outcomes, an f64, and f32; those that a call doesn't have are 0.
 use crate::lists::{Places, ROOM, same_number};
 use crate::{lists, read};
-use answers::{Measured, Outcome};
+use answers::Refusal;
 
 #[derive(Clone, Copy)]
 pub struct Said {
@@ -23,16 +23,21 @@ pub fn nothing() -> Said {
     code(255)
 }
 
-pub fn code_of(outcome: Outcome) -> u32 {
-    u32::from(answers::number_of(outcome))
+pub fn code_of(outcome: Result<(), Refusal>) -> u32 {
+    u32::from(answers::code_of(outcome))
 }
 
-pub fn ended(outcome: Outcome) -> Said {
+pub fn ended(outcome: Result<(), Refusal>) -> Said {
     code(code_of(outcome))
 }
 
+// All numbers that a refused call shows are 0.
+pub fn refused(refusal: Refusal) -> Said {
+    ended(Err(refusal))
+}
+
 // The outcome, where all else is right.
-pub fn where_right(right: bool, outcome: Outcome) -> Said {
+pub fn where_right(right: bool, outcome: Result<(), Refusal>) -> Said {
     if !right {
         return nothing();
     }
@@ -40,7 +45,7 @@ pub fn where_right(right: bool, outcome: Outcome) -> Said {
 }
 
 // The outcome and these numbers.
-pub fn floats(outcome: Outcome, xs: &[f32]) -> Said {
+pub fn with_floats(outcome: Result<(), Refusal>, xs: &[f32]) -> Said {
     let mut floats = [0.0; ROOM];
     for (float, x) in floats.iter_mut().zip(xs) {
         *float = *x;
@@ -51,24 +56,23 @@ pub fn floats(outcome: Outcome, xs: &[f32]) -> Said {
     }
 }
 
-pub fn measured(m: Measured) -> Said {
-    floats(m.outcome, &[m.value])
+pub fn floats(xs: &[f32]) -> Said {
+    with_floats(Ok(()), xs)
 }
 
 pub fn float(x: f32) -> Said {
-    floats(Outcome::Done, &[x])
+    floats(&[x])
 }
 
-// The outcome and an f64.
-pub fn with_double(outcome: Outcome, wide: f64) -> Said {
-    Said {
-        wide,
-        ..ended(outcome)
+pub fn measured(m: Result<f32, Refusal>) -> Said {
+    match m {
+        Ok(x) => float(x),
+        Err(refusal) => refused(refusal),
     }
 }
 
-pub fn double(x: f64) -> Said {
-    with_double(Outcome::Done, x)
+pub fn double(wide: f64) -> Said {
+    Said { wide, ..code(0) }
 }
 
 // ---- the comparison

@@ -1,16 +1,15 @@
 -- What `add_dc_offset`, `scale` and `add_signals` answer, and what they leave in the lent slice (01, item 2). Definitions only.
-use Rattle.std.specs.Prelude.{ℕ, min, cond, ◌||◌, List, map, length, get_or, Float}
+use Rattle.std.specs.Prelude.{ℕ, min, cond, ◌||◌, List, map, length, get_or, Float, Err}
 use Rattle.std.specs.Float.{nan, binary32}
 use Rattle.std.specs.Float.Ieee.{add, mul}
-use Rattle.answers.specs.declared.Outcome.{Outcome}
-use Rattle.answers.specs.declared.Outcome.TheVariants.{Done, TooLong}
-use Rattle.answers.specs.Numbers.{too_long}
+use Rattle.answers.specs.Numbers.{Outcome, done, too_long}
+use Rattle.answers.specs.declared.Refusal.TheVariants.{TooLong}
 use Rattle.answers.specs.Left.{Left, left}
 use Rattle.laws.specs.Filled.{filled}
 
 -- f of every sample in its place. 01, row 3: 3 where there are more than 65,536; "Nothing but 0 writes to what was lent"
 unfoldable pub each : (Float → Float) → List Float → Left Outcome (List Float)
-each f s = cond (too_long (length s)) (left TooLong s) (left Done (map f s))
+each f s = cond (too_long (length s)) (left (Err TooLong) s) (left done (map f s))
 
 -- 01, item 2, `add_dc_offset`: each sample plus the offset, in f32
 abbrev pub offset_by : Float → List Float → Left Outcome (List Float)
@@ -30,4 +29,4 @@ sum_at a b j = add binary32 (get_or a j nan) (get_or b j nan)
 -- the sums, and behind them what was there: "the rest of the output stays". Only a and b are read, so only they can be too long
 unfoldable pub added_into : List Float → List Float → List Float → Left Outcome (List Float)
 added_into a b out =
-    cond (too_long (length a) || too_long (length b)) (left TooLong out) (left Done (filled (sum_at a b) (shortest a b out) out))
+    cond (too_long (length a) || too_long (length b)) (left (Err TooLong) out) (left done (filled (sum_at a b) (shortest a b out) out))

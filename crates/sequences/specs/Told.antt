@@ -1,9 +1,10 @@
 -- What a sequence that ends in a reading hands out, and a setting of the port on what the calls before left. Definitions only.
-use Rattle.std.specs.Prelude.{ℕ, ◌≡◌, List, length, Float, Option}
-use Rattle.answers.specs.declared.Outcome.{Outcome}
-use Rattle.answers.specs.declared.Measured.{Measured}
+use Rattle.std.specs.Prelude.{ℕ, ◌≡◌, List, length, Float, Option, Result}
+use Rattle.answers.specs.Numbers.{Outcome}
+use Rattle.answers.specs.declared.Refusal.{Refusal}
+use Rattle.answers.specs.Answers.{given, ended, told}
 use Rattle.laws.specs.Literals.{zero32}
-use Rattle.answers.specs.Numbers.{number_of, if_done}
+use Rattle.answers.specs.Numbers.{number_of}
 use Rattle.generator.specs.declared.Wave.{Wave}
 use Rattle.signal.specs.declared.Answer.{Answer}
 use Rattle.signal.specs.declared.Metrics.{Metrics}
@@ -15,7 +16,6 @@ use Rattle.signal.specs.Editions.{new_by, new_port_by, outcome_by, next_by}
 use Rattle.port.specs.Fields.{put, number, at_voltage}
 use Rattle.port.specs.Readings.{instantaneous_power}
 use Rattle.held.specs.Held.{swapped}
-use Rattle.sequences.specs.declared.MetricsAnswer.{MetricsAnswer}
 
 -- the samples and all but the port's voltage stay; a setting of the port is not refused, and the outcome is that of the call before
 abbrev pub with_voltage : Float → SignalLeft → SignalLeft
@@ -31,18 +31,18 @@ metrics_in a = metrics_of a.state
 abbrev pub port_power : Answer → Float
 port_power a = instantaneous_power a.state.port
 
--- ---- what the sequence answers; 01, "What a refusal returns is zero throughout"
+-- ---- what the sequence answers
 
 -- how the signal was made, and what the last call says of it. Where it was refused a setting behind it would say 9, of the zero state's edition
-abbrev pub metrics_told : Outcome → Answer → MetricsAnswer
-metrics_told ended a = record { outcome = ended; metrics = if_done ended (metrics_in a) zero_metrics }
+abbrev pub metrics_told : Outcome → Answer → Result Metrics Refusal
+metrics_told o a = given o (metrics_in a)
 
-abbrev pub measured_after : SignalLeft → Later → Left MetricsAnswer (List Float)
+abbrev pub measured_after : SignalLeft → Later → Left (Result Metrics Refusal) (List Float)
 measured_after signal c = answered_as (metrics_told signal.answer.outcome) (next_by signal c)
 
 -- a setting of the port is not refused
-abbrev pub power_told : Answer → Measured
-power_told a = record { outcome = a.outcome; value = if_done a.outcome (port_power a) zero32 }
+abbrev pub power_told : Answer → Result Float Refusal
+power_told a = given a.outcome (port_power a)
 
 -- ---- what is claimed of these; each is proved in proofs/Endings.antt
 
@@ -50,34 +50,34 @@ power_told a = record { outcome = a.outcome; value = if_done a.outcome (port_pow
 abbrev pub ToldAsMade : Type 0
 ToldAsMade =
     (wave : Wave) (amplitude frequency : Float) (edition : ℕ) (xs : List Float) (c : Later)
-    → (measured_after (new_by wave amplitude frequency edition xs) c).answer.outcome ≡ outcome_by edition (length xs)
+    → ended (measured_after (new_by wave amplitude frequency edition xs) c).answer ≡ outcome_by edition (length xs)
 
 abbrev pub PowerAsMade : Type 0
 PowerAsMade =
     (voltage current : Float) (frequency : Option Float) (edition : ℕ) (v : Float) (xs : List Float)
-    → (power_told (with_voltage v (new_port_by voltage current frequency edition xs)).answer).outcome ≡ outcome_by edition (length xs)
+    → ended (power_told (with_voltage v (new_port_by voltage current frequency edition xs)).answer) ≡ outcome_by edition (length xs)
 
 -- and beside it what the last call says where it was made (`told_done`, `power_done`), and zero where it was refused (`told_refused`, `power_refused`)
 abbrev pub ToldDone : Type 0
 ToldDone =
     (wave : Wave) (amplitude frequency : Float) (edition : ℕ) (xs : List Float) (c : Later) → number_of (outcome_by edition (length xs)) ≡ 0
-    → (measured_after (new_by wave amplitude frequency edition xs) c).answer.metrics ≡ metrics_of (next_by (new_by wave amplitude frequency edition xs) c).answer.state
+    → told zero_metrics (measured_after (new_by wave amplitude frequency edition xs) c).answer ≡ metrics_of (next_by (new_by wave amplitude frequency edition xs) c).answer.state
 
 abbrev pub ToldRefused : Type 0
 ToldRefused =
     (wave : Wave) (amplitude frequency : Float) (edition : ℕ) (xs : List Float) (c : Later) → (number_of (outcome_by edition (length xs)) ≡ 0 → ⊥)
-    → (measured_after (new_by wave amplitude frequency edition xs) c).answer.metrics ≡ zero_metrics
+    → told zero_metrics (measured_after (new_by wave amplitude frequency edition xs) c).answer ≡ zero_metrics
 
 abbrev pub PowerDone : Type 0
 PowerDone =
     (voltage current : Float) (frequency : Option Float) (edition : ℕ) (v : Float) (xs : List Float) → number_of (outcome_by edition (length xs)) ≡ 0
-    → (power_told (with_voltage v (new_port_by voltage current frequency edition xs)).answer).value
+    → told zero32 (power_told (with_voltage v (new_port_by voltage current frequency edition xs)).answer)
     ≡ instantaneous_power (with_voltage v (new_port_by voltage current frequency edition xs)).answer.state.port
 
 abbrev pub PowerRefused : Type 0
 PowerRefused =
     (voltage current : Float) (frequency : Option Float) (edition : ℕ) (v : Float) (xs : List Float) → (number_of (outcome_by edition (length xs)) ≡ 0 → ⊥)
-    → (power_told (with_voltage v (new_port_by voltage current frequency edition xs)).answer).value ≡ zero32
+    → told zero32 (power_told (with_voltage v (new_port_by voltage current frequency edition xs)).answer) ≡ zero32
 
 -- a setting of a signal that was made is not refused (`set_after_made`)
 abbrev pub SetAfterMade : Type 0

@@ -10,17 +10,10 @@ ghost use Rattle.signal.specs.Editions.{new_by, new_port_by, run_by};
 ghost use Rattle.signal.specs.Sequence as Sequence;
 ghost use Rattle.sequences.specs.Told.{with_voltage, measured_after, power_told};
 
-use answers::{Measured, Outcome};
+use answers::Refusal;
 use generator::Wave;
 use held::Signal;
 use signal::{Answer, Metrics};
-
-// How the signal was made, and what is measured.
-#[derive(Clone, Copy)]
-pub struct MetricsAnswer {
-    pub outcome: Outcome,
-    pub metrics: Metrics,
-}
 
 // A wave, then its duty cycle and its phase. What is handed out is the last call's answer: 9 where the signal was refused as it was made, whatever for, since
 // the zero state has edition 0.
@@ -62,7 +55,7 @@ pub fn emptied(
 }
 
 // What is measured of a wave with this duty cycle. Its edition and the number of samples say how the signal is made, and a setting of one that was made is
-// not refused; a signal that was refused has nothing measured.
+// not refused.
 pub fn measured(
     wave: Wave,
     amplitude: f32,
@@ -70,16 +63,14 @@ pub fn measured(
     edition: u8,
     duty_cycle: f32,
     samples: &mut [f32],
-) -> MetricsAnswer
+) -> Result<Metrics, Refusal>
     ensures { left result samples.new
         ≡ measured_after (new_by wave amplitude frequency edition samples.old) (Sequence.setting (Sequence.duty duty_cycle)) }
 {
-    let outcome = parts::judged(edition, samples.len());
+    let made = parts::judged(edition, samples.len());
     let metrics = parts::metrics_after(wave, amplitude, frequency, edition, duty_cycle, samples);
-    MetricsAnswer {
-        outcome: outcome,
-        metrics: metrics,
-    }
+    made?;
+    Ok(metrics)
 }
 
 // The power of a port whose voltage is set to `next`. The voltage is set whether the port was refused or not: what that makes of a refused one is not told.
@@ -90,13 +81,11 @@ pub fn powered(
     edition: u8,
     next: f32,
     samples: &mut [f32],
-) -> Measured
+) -> Result<f32, Refusal>
     ensures { left result samples.new ≡ answered_as power_told (with_voltage next (new_port_by voltage current frequency edition samples.old)) }
 {
     let ended = parts::judged(edition, samples.len());
     let power = parts::power_after(voltage, current, frequency, edition, next, samples);
-    Measured {
-        outcome: ended,
-        value: parts::unless_refused(ended, power),
-    }
+    ended?;
+    Ok(power)
 }

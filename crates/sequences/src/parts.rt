@@ -1,23 +1,21 @@
 // The calls of a sequence that ends in a reading, what that says of the state they left, and what of it is told.
 ghost use Rattle.std.specs.Prelude.{◌≡◌, [], ◌∷◌};
-ghost use Rattle.laws.specs.Literals.{zero32};
 ghost use Rattle.answers.specs.Left.{left, answered_as};
-ghost use Rattle.answers.specs.Numbers.{if_done};
 ghost use Rattle.signal.specs.Editions.{new_by, new_port_by, run_by, outcome_by};
 ghost use Rattle.signal.specs.Sequence as Sequence;
 ghost use Rattle.sequences.specs.Told.{with_voltage, metrics_in, port_power};
 
-use answers::Outcome;
+use answers::Refusal;
 use generator::Wave;
 use held::Signal;
 use signal::Metrics;
 
 // How a signal of this edition over n samples is made: 9, 3, 4 or done.
-pub fn judged(edition: u8, n: usize) -> Outcome
+pub fn judged(edition: u8, n: usize) -> Result<(), Refusal>
     ensures { result ≡ outcome_by edition n }
 {
     if distortion::editions::highest_order(edition) == 0 {
-        return Outcome::UnknownEdition;
+        return Err(Refusal::UnknownEdition);
     }
     spectrum::parts::judged(n, false)
 }
@@ -53,14 +51,4 @@ pub fn power_after(
     let mut signal = Signal::new_power_port(voltage, current, frequency, edition, samples);
     signal.set_voltage(next);
     signal.instantaneous_power()
-}
-
-// A value where the calls were done, and zero where they were refused.
-pub fn unless_refused(outcome: Outcome, value: f32) -> f32
-    ensures { result ≡ if_done outcome value zero32 }
-{
-    if answers::number_of(outcome) != 0 {
-        return 0.0;
-    }
-    value
 }

@@ -1,4 +1,5 @@
 -- The calls by edition: how they end, that they are those over its highest order, and that the edition stays. Assumes nothing.
+use Rattle.std.specs.Prelude.{Err}
 use Rattle.std.specs.Prelude.{Option}
 use mathlib.Core.Path.{◌≡◌, refl, sym, ap, subst, ◌∙◌}
 use mathlib.Core.Bool.{Bool, true, false, cond}
@@ -9,11 +10,12 @@ use lib.Dec.{eqb}
 use lib.ListN.{length}
 use lib.Ieee.{Float}
 use Rattle.laws.specs.Literals.{zero32}
-use Rattle.answers.specs.declared.Outcome.{Outcome}
-use Rattle.answers.specs.declared.Outcome.TheVariants.{Done, UnknownEdition}
+use Rattle.answers.specs.Numbers.{Outcome}
+use Rattle.answers.specs.Numbers.{done}
+use Rattle.answers.specs.declared.Refusal.TheVariants.{UnknownEdition}
 use Rattle.answers.specs.Left.{left}
 use Rattle.answers.specs.Numbers.{number_of, if_done, too_long}
-use Rattle.answers.proofs.Ended.{if_either, if_refused}
+use Rattle.answers.proofs.Ended.{if_either, if_not_zero}
 use Rattle.generator.specs.declared.Wave.{Wave}
 use Rattle.generator.specs.declared.Wave.TheVariants.{DC}
 use Rattle.spectrum.specs.Grid.{on_grid}
@@ -27,16 +29,16 @@ use Rattle.signal.specs.Sequence.{phase, duty, Later, setting, reset, next, run}
 use Rattle.signal.specs.Editions.{remade_by, new_by, edition_in, outcome_by, next_by}
 use Rattle.signal.specs.InEdition.{edition_after, EndsNew, EndsPort, EndsSet, EndsReset, NineThen, NineOnly, RefusedNew, RefusedPort, RefusedSet, ZeroEdition}
 use Rattle.signal.specs.InEdition.{KnownNew, KnownPort, KnownRun, ThdNew, ThdSet, PortMetrics, EditionKept, NamedNew, NamedPort}
-use Rattle.signal.proofs.Ends.{chain, refused, taken}
+use Rattle.signal.proofs.Ends.{chain, unless_not_zero, unless_zero}
 use Rattle.signal.proofs.Sequence.{state_of, judged_taken, thd_set}
 
 -- ---- how the calls end
 
-judged_ends : (s : State) (xs : List Float) (done : SignalLeft) → done.answer.outcome ≡ Done → (unless_refused s xs done).answer.outcome ≡ outcome_of (length xs) false
+judged_ends : (s : State) (xs : List Float) (after : SignalLeft) → after.answer.outcome ≡ done → (unless_refused s xs after).answer.outcome ≡ outcome_of (length xs) false
 unfolding unless_refused outcome_of if_done
-judged_ends s xs done e = go (too_long (length xs)) (on_grid (length xs))
+judged_ends s xs after e = go (too_long (length xs)) (on_grid (length xs))
   where
-    go : (long grid : Bool) → (if_done (chain long grid) done (left (answer (chain long grid) s) xs)).answer.outcome ≡ chain long grid
+    go : (long grid : Bool) → (if_done (chain long grid) after (left (answer (chain long grid) s) xs)).answer.outcome ≡ chain long grid
     go true grid = refl
     go false false = refl
     go false true = e
@@ -48,8 +50,8 @@ remade_ends top earlier next xs = judged_ends earlier xs (made top next xs) refl
 remade_by_ends : (edition : ℕ) (earlier next : State) (xs : List Float) → (remade_by edition earlier next xs).answer.outcome ≡ outcome_by edition (length xs)
 unfolding remade_by
 remade_by_ends edition earlier next xs =
-    by_inside (λ (l : SignalLeft). l.answer.outcome) edition (λ (top : ℕ). remade top earlier next xs) (left (answer UnknownEdition earlier) xs)
-    ∙ by_same edition (λ (top : ℕ). (remade top earlier next xs).answer.outcome) (λ (top : ℕ). outcome_of (length xs) false) UnknownEdition (λ top. remade_ends top earlier next xs)
+    by_inside (λ (l : SignalLeft). l.answer.outcome) edition (λ (top : ℕ). remade top earlier next xs) (left (answer (Err UnknownEdition) earlier) xs)
+    ∙ by_same edition (λ (top : ℕ). (remade top earlier next xs).answer.outcome) (λ (top : ℕ). outcome_of (length xs) false) (Err UnknownEdition) (λ top. remade_ends top earlier next xs)
 
 -- the readings of a port change no outcome
 ported_ends : (voltage current : Float) (frequency : Option Float) (l : SignalLeft) → (ported voltage current frequency l).answer.outcome ≡ l.answer.outcome
@@ -76,10 +78,10 @@ pub remade_by_refused : (edition : ℕ) (earlier next : State) (xs : List Float)
 unfolding remade_by by_edition remade
 remade_by_refused edition earlier next xs o e n = go (eqb edition 1) (eqb edition 2) e
   where
-    go : (a b : Bool) → o ≡ cond a (outcome_of (length xs) false) (cond b (outcome_of (length xs) false) UnknownEdition)
-        → cond a (unless_refused earlier xs (made 16 next xs)) (cond b (unless_refused earlier xs (made 40 next xs)) (left (answer UnknownEdition earlier) xs)) ≡ left (answer o earlier) xs
-    go true b e = sym (refused earlier xs (made 16 next xs) o (number_of o) e refl n)
-    go false true e = sym (refused earlier xs (made 40 next xs) o (number_of o) e refl n)
+    go : (a b : Bool) → o ≡ cond a (outcome_of (length xs) false) (cond b (outcome_of (length xs) false) (Err UnknownEdition))
+        → cond a (unless_refused earlier xs (made 16 next xs)) (cond b (unless_refused earlier xs (made 40 next xs)) (left (answer (Err UnknownEdition) earlier) xs)) ≡ left (answer o earlier) xs
+    go true b e = sym (unless_not_zero earlier xs (made 16 next xs) o e n)
+    go false true e = sym (unless_not_zero earlier xs (made 40 next xs) o e n)
     go false false e = rw e
 
 -- ---- 9
@@ -94,10 +96,10 @@ judged_number n e = go (too_long n) (on_grid n) e
     go false true e = omega arith
 
 pub nine_then : NineThen
-nine_then edition n u = ap number_of (over_unknown edition (λ (top : ℕ). outcome_of n false) UnknownEdition u)
+nine_then edition n u = ap number_of (over_unknown edition (λ (top : ℕ). outcome_of n false) (Err UnknownEdition) u)
 
 pub nine_only : NineOnly
-nine_only edition n e k = judged_number n (sym (ap number_of (over_known edition (λ (top : ℕ). outcome_of n false) UnknownEdition k)) ∙ e)
+nine_only edition n e k = judged_number n (sym (ap number_of (over_known edition (λ (top : ℕ). outcome_of n false) (Err UnknownEdition) k)) ∙ e)
 
 -- ---- what a refused call answers and leaves
 
@@ -108,7 +110,7 @@ pub refused_port : RefusedPort
 unfolding ported
 refused_port voltage current frequency edition xs n =
     ap (ported voltage current frequency) (refused_new DC voltage zero32 edition xs n)
-    ∙ if_refused (outcome_by edition (length xs)) _ (left (answer (outcome_by edition (length xs)) zero_state) xs) _ refl n
+    ∙ if_not_zero (outcome_by edition (length xs)) _ (left (answer (outcome_by edition (length xs)) zero_state) xs) n
 
 pub refused_set : RefusedSet
 refused_set l (phase p) n = remade_by_refused (edition_after l) (state_of l) (with_phase (state_of l) p) l.places _ refl n
@@ -144,14 +146,14 @@ edition_kept l (c ∷ cs) = edition_kept (next_by l c) cs ∙ next_edition l c
 -- where a call is done it left the edition of the state that was made
 remade_named : (top : ℕ) (earlier next : State) (xs : List Float) → number_of (outcome_of (length xs) false) ≡ 0 → edition_after (remade top earlier next xs) ≡ edition_in next
 unfolding remade made with_measured
-remade_named top earlier next xs z = ap edition_after (taken earlier xs (made top next xs) (outcome_of (length xs) false) (number_of (outcome_of (length xs) false)) refl refl z)
+remade_named top earlier next xs z = ap edition_after (unless_zero earlier xs (made top next xs) (outcome_of (length xs) false) refl z)
 
 remade_by_named : (edition : ℕ) (earlier next : State) (xs : List Float) → number_of (outcome_by edition (length xs)) ≡ 0 → edition_after (remade_by edition earlier next xs) ≡ edition_in next
 unfolding remade_by by_edition
 remade_by_named edition earlier next xs z = go (eqb edition 1) (eqb edition 2) z
   where
-    go : (a b : Bool) → number_of (cond a (outcome_of (length xs) false) (cond b (outcome_of (length xs) false) UnknownEdition)) ≡ 0
-        → edition_after (cond a (remade 16 earlier next xs) (cond b (remade 40 earlier next xs) (left (answer UnknownEdition earlier) xs))) ≡ edition_in next
+    go : (a b : Bool) → number_of (cond a (outcome_of (length xs) false) (cond b (outcome_of (length xs) false) (Err UnknownEdition))) ≡ 0
+        → edition_after (cond a (remade 16 earlier next xs) (cond b (remade 40 earlier next xs) (left (answer (Err UnknownEdition) earlier) xs))) ≡ edition_in next
     go true b z = remade_named 16 earlier next xs z
     go false true z = remade_named 40 earlier next xs z
     go false false z = absurd (omega arith)

@@ -10,8 +10,8 @@ use lib.ListN.{length}
 use lib.Ieee.{Float, lt, of_bits}
 use Rattle.laws.specs.Literals.{zero32}
 use Rattle.laws.proofs.Filling.{filled_length}
-use Rattle.answers.specs.declared.Outcome.{Outcome}
-use Rattle.answers.specs.declared.Outcome.TheVariants.{Done}
+use Rattle.answers.specs.Numbers.{Outcome}
+use Rattle.answers.specs.Numbers.{done}
 use Rattle.answers.specs.Left.{left}
 use Rattle.answers.specs.Numbers.{number_of, if_done}
 use Rattle.answers.proofs.Ended.{if_either}
@@ -43,7 +43,7 @@ module _ (top limit : ℕ) (l : top ≤ limit) where
   unfolding made
   made_as s xs none =
       let ys = (generated s.shape xs).places in
-      ap (λ (t : State). left (answer Done t) ys) (measured_as s ys (rw (generated_length s.shape xs) none))
+      ap (λ (t : State). left (answer done t) ys) (measured_as s ys (rw (generated_length s.shape xs) none))
 
   remade_as : (earlier next : State) (xs : List Float) → NoneAbove top next.shape.frequency (length xs) → remade limit earlier next xs ≡ remade top earlier next xs
   unfolding remade
@@ -87,9 +87,9 @@ module _ (e top : ℕ) where
       go true = refl
       go false = refl
 
-  judged_numbered : (s : State) (xs : List Float) (done : SignalLeft) → numbered_as e (unless_refused s xs done) ≡ unless_refused (numbered e s) xs (numbered_as e done)
+  judged_numbered : (s : State) (xs : List Float) (after : SignalLeft) → numbered_as e (unless_refused s xs after) ≡ unless_refused (numbered e s) xs (numbered_as e after)
   unfolding unless_refused
-  judged_numbered s xs done = if_numbered (outcome_of (length xs) false) done (left (answer (outcome_of (length xs) false) s) xs)
+  judged_numbered s xs after = if_numbered (outcome_of (length xs) false) after (left (answer (outcome_of (length xs) false) s) xs)
 
   made_numbered : (s : State) (xs : List Float) → made top (numbered e s) xs ≡ numbered_as e (made top s xs)
   unfolding made with_measured

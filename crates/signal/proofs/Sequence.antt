@@ -12,7 +12,7 @@ use Rattle.laws.specs.Literals.{zero32, tiny32}
 use Rattle.laws.proofs.Filling.{filled_length}
 use Rattle.answers.specs.Left.{left}
 use Rattle.answers.specs.Numbers.{if_done}
-use Rattle.answers.specs.declared.Outcome.TheVariants.{Done}
+use Rattle.answers.specs.Numbers.{done}
 use Rattle.generator.specs.declared.Shape.{Shape}
 use Rattle.generator.specs.Sample.{sample_at, generated}
 use Rattle.generator.proofs.Kept.{generated_length}
@@ -36,9 +36,9 @@ shape_in l = l.answer.state.shape
 
 -- ---- one call on a length that is taken
 
-pub judged_taken : (s : State) (xs : List Float) (done : SignalLeft) → Taken xs → unless_refused s xs done ≡ done
+pub judged_taken : (s : State) (xs : List Float) (after : SignalLeft) → Taken xs → unless_refused s xs after ≡ after
 unfolding unless_refused outcome_of if_done
-judged_taken s xs done h = rw (h.0, h.1)
+judged_taken s xs after h = rw (h.0, h.1)
 
 abbrev pub with_setting : State → Setting → State
 with_setting s (phase p) = with_phase s p
@@ -54,7 +54,7 @@ unfolding remade
 next_set top l (phase p) h = judged_taken _ _ _ h
 next_set top l (duty d) h = judged_taken _ _ _ h
 
-pub next_reset : (top : ℕ) (l : SignalLeft) → Taken l.places → next top l reset ≡ left (answer Done (silenced (state_of l))) (filled (λ (j : ℕ). zero32) (length l.places) l.places)
+pub next_reset : (top : ℕ) (l : SignalLeft) → Taken l.places → next top l reset ≡ left (answer done (silenced (state_of l))) (filled (λ (j : ℕ). zero32) (length l.places) l.places)
 unfolding reset_of
 next_reset top l h = judged_taken _ _ _ h
 

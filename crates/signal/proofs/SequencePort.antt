@@ -9,7 +9,7 @@ use lib.Dec.{eqb, lit<}
 use lib.ListN.{length}
 use lib.Ieee.{Float}
 use Rattle.laws.specs.Literals.{zero32}
-use Rattle.answers.specs.declared.Outcome.{Outcome}
+use Rattle.answers.specs.Numbers.{Outcome}
 use Rattle.answers.specs.Left.{left}
 use Rattle.answers.specs.Numbers.{number_of, if_done, too_long}
 use Rattle.answers.proofs.Ended.{if_either}
@@ -137,9 +137,9 @@ silenced_others : (s : State) → OthersStay s.port (silenced s).port
 unfolding silenced
 silenced_others s = levelled_others s.port zero32 zero32 zero32
 
-either : (P : SignalLeft → Type 0) (s : State) (xs : List Float) (done : SignalLeft) → P done → ((o : Outcome) → P (left (answer o s) xs)) → P (unless_refused s xs done)
+either : (P : SignalLeft → Type 0) (s : State) (xs : List Float) (after : SignalLeft) → P after → ((o : Outcome) → P (left (answer o s) xs)) → P (unless_refused s xs after)
 unfolding unless_refused
-either P s xs done taken refused = if_either P (outcome_of (length xs) false) done _ taken (refused (outcome_of (length xs) false))
+either P s xs after taken refused = if_either P (outcome_of (length xs) false) after _ taken (refused (outcome_of (length xs) false))
 
 abbrev Others : SignalLeft → SignalLeft → Type 0
 Others l m = OthersStay (state_of l).port (state_of m).port
@@ -156,11 +156,11 @@ others_stay top l (d ∷ ds) i v t c = others_stay top (next top l d) ds i v t c
 
 -- ---- calls that are refused
 
-judged_refused : (s : State) (xs : List Float) (done : SignalLeft) → Refused xs → unless_refused s xs done ≡ left (answer (outcome_of (length xs) false) s) xs
+judged_refused : (s : State) (xs : List Float) (after : SignalLeft) → Refused xs → unless_refused s xs after ≡ left (answer (outcome_of (length xs) false) s) xs
 unfolding unless_refused outcome_of if_done
-judged_refused s xs done h = go (too_long (length xs)) (on_grid (length xs)) h
+judged_refused s xs after h = go (too_long (length xs)) (on_grid (length xs)) h
   where
-    go : (long grid : Bool) → (long ≡ true) ⊎ (grid ≡ false) → if_done (chain long grid) done (left (answer (chain long grid) s) xs) ≡ left (answer (chain long grid) s) xs
+    go : (long grid : Bool) → (long ≡ true) ⊎ (grid ≡ false) → if_done (chain long grid) after (left (answer (chain long grid) s) xs) ≡ left (answer (chain long grid) s) xs
     go true grid h = refl
     go false false h = refl
     go false true h = absurd (⊎_elim false≢true (λ e. false≢true (sym e)) h)

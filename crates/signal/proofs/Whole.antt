@@ -6,13 +6,14 @@ use Prim.Native.Nat.{ℕ}
 use lib.Ieee.{Float, binary32, mul}
 use Rattle.laws.specs.Literals.{zero32, one32}
 use Rattle.number.specs.Number.{abs}
-use Rattle.answers.specs.declared.Outcome.{Outcome}
-use Rattle.answers.specs.declared.Outcome.TheVariants.{Done}
+use Rattle.answers.specs.Numbers.{Outcome}
+use Rattle.answers.specs.Numbers.{done}
+use Rattle.answers.specs.Answers.{told}
 use Rattle.answers.specs.Left.{Left, left}
 use Rattle.generator.specs.Sample.{generated}
 use Rattle.port.specs.declared.Port.{Port}
 use Rattle.port.specs.Fields.{put, number, reading, at_voltage, at_current, at_frequency, at_phase_angle, at_active_power, at_apparent_power, at_power_factor, at_displacement_pf}
-use Rattle.figures.specs.declared.TimeAnswer.{TimeAnswer}
+use Rattle.figures.specs.declared.TimeFigures.{TimeFigures}
 use Rattle.figures.specs.Figures.{answer_of}
 use Rattle.distortion.specs.Thd.{thd_of}
 use Rattle.signal.specs.declared.State.{State}
@@ -20,14 +21,14 @@ use Rattle.signal.specs.State.{voltage_of, levelled, with_measured, as_port}
 use Rattle.signal.specs.Calls.{SignalLeft, answer, made}
 use Rattle.signal.specs.Editions.{remade_by}
 
-pub measured_whole : (top : ℕ) (s : State) (xs : List Float) (a : TimeAnswer) (thd v : Float) (p : Port)
-    → a ≡ answer_of s.shape.wave s.shape.amplitude s.shape.frequency s.metrics.figures xs → thd ≡ thd_of top s.shape.frequency s.metrics.thd xs
-    → v ≡ voltage_of s.shape.wave a.figures → p ≡ levelled s.port v a.figures.crest_factor thd
-    → ◌≡◌ {A = State} (record { shape = s.shape; port = p; metrics = record { figures = a.figures; thd = thd; edition = s.metrics.edition } }) (with_measured top s xs)
+pub measured_whole : (top : ℕ) (s : State) (xs : List Float) (f : TimeFigures) (thd v : Float) (p : Port)
+    → f ≡ told s.metrics.figures (answer_of s.shape.wave s.shape.amplitude s.shape.frequency s.metrics.figures xs) → thd ≡ thd_of top s.shape.frequency s.metrics.thd xs
+    → v ≡ voltage_of s.shape.wave f → p ≡ levelled s.port v f.crest_factor thd
+    → ◌≡◌ {A = State} (record { shape = s.shape; port = p; metrics = record { figures = f; thd = thd; edition = s.metrics.edition } }) (with_measured top s xs)
 unfolding with_measured
-measured_whole top s xs a thd v p ea et ev ep = rw (ep, ev, et, ea)
+measured_whole top s xs f thd v p ea et ev ep = rw (ep, ev, et, ea)
 
-pub made_whole : (top : ℕ) (s r : State) (xs ys : List Float) (o : Outcome) → left o ys ≡ generated s.shape xs → r ≡ with_measured top s ys → left (answer Done r) ys ≡ made top s xs
+pub made_whole : (top : ℕ) (s r : State) (xs ys : List Float) (o : Outcome) → left o ys ≡ generated s.shape xs → r ≡ with_measured top s ys → left (answer done r) ys ≡ made top s xs
 unfolding made
 made_whole top s r xs ys o g e = let p : ys ≡ (generated s.shape xs).places = ap (λ (w : Left Outcome (List Float)). w.places) g in rw (e, p)
 

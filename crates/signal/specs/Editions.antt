@@ -1,8 +1,8 @@
 -- The calls by the edition's number: 9 first, and else the call over the edition's highest order. 02, e: "Demand 2 speaks of edition 1, edition 2 follows the
 -- same rule with 40". The contracts cite these. Definitions only.
-use Rattle.std.specs.Prelude.{ℕ, false, List, [], ◌∷◌, Float, Option}
-use Rattle.answers.specs.declared.Outcome.{Outcome}
-use Rattle.answers.specs.declared.Outcome.TheVariants.{UnknownEdition}
+use Rattle.std.specs.Prelude.{Err, ℕ, false, List, [], ◌∷◌, Float, Option}
+use Rattle.answers.specs.Numbers.{Outcome}
+use Rattle.answers.specs.declared.Refusal.TheVariants.{UnknownEdition}
 use Rattle.answers.specs.Left.{left}
 use Rattle.laws.specs.Literals.{zero32}
 use Rattle.generator.specs.declared.Wave.{Wave}
@@ -17,7 +17,7 @@ use Rattle.signal.specs.Sequence.{Later, setting, reset, phase, duty}
 -- 02, e, "Refusals: 9, edition named or held by the state neither 1 nor 2, where THD is worked out, before all others": the earlier state comes back, and
 -- "Nothing but 0 writes to what was lent" (01)
 unfoldable pub remade_by : ℕ → State → State → List Float → SignalLeft
-remade_by edition earlier next xs = by_edition edition (λ (top : ℕ). remade top earlier next xs) (left (answer UnknownEdition earlier) xs)
+remade_by edition earlier next xs = by_edition edition (λ (top : ℕ). remade top earlier next xs) (left (answer (Err UnknownEdition) earlier) xs)
 
 -- `new`: "the caller names the edition where the signal is made"; where refused, the zero state, whose edition is 0
 abbrev pub new_by : Wave → Float → Float → ℕ → List Float → SignalLeft
@@ -39,7 +39,7 @@ duty_by s d xs = remade_by (edition_in s) s (with_duty s d) xs
 
 -- how such a call ends: 9 "before all others", and then 3 and 4 (01), by the number of samples
 abbrev pub outcome_by : ℕ → ℕ → Outcome
-outcome_by edition n = by_edition edition (λ (top : ℕ). outcome_of n false) UnknownEdition
+outcome_by edition n = by_edition edition (λ (top : ℕ). outcome_of n false) (Err UnknownEdition)
 
 -- ---- later calls in a row; `reset_waveform` works out no THD and knows no 9
 

@@ -2,6 +2,7 @@
 use Rattle.std.specs.Prelude.{ℕ, false, cond, List, [], ◌∷◌, Float, Option, Some, None}
 use Rattle.std.specs.Float.{binary32}
 use Rattle.std.specs.Float.Ieee.{mul, lt}
+use Rattle.answers.specs.Answers.{told}
 use Rattle.laws.specs.Literals.{zero32, one32}
 use Rattle.number.specs.Number.{abs}
 use Rattle.generator.specs.declared.Wave.{Wave}
@@ -92,7 +93,7 @@ levelled p voltage crest thd = puts p (level_rows voltage crest thd)
 -- 01, item 10: "with the THD of step 10 of `calculate_metrics`", of orders up to `top`
 unfoldable pub with_measured : ℕ → State → List Float → State
 with_measured top s xs =
-    let figures = (answer_of s.shape.wave s.shape.amplitude s.shape.frequency s.metrics.figures xs).figures in
+    let figures = told s.metrics.figures (answer_of s.shape.wave s.shape.amplitude s.shape.frequency s.metrics.figures xs) in
     let thd = thd_of top s.shape.frequency s.metrics.thd xs in
     let port = levelled s.port (voltage_of s.shape.wave figures) figures.crest_factor thd in
     record { shape = s.shape; port = port; metrics = record { figures = figures; thd = thd; edition = s.metrics.edition } }

@@ -9,7 +9,7 @@ ghost use Rattle.signal.specs.State.{metrics_of};
 ghost use Rattle.signal.specs.Calls.{reset_of};
 ghost use Rattle.signal.specs.Editions.{new_by, new_port_by, phase_by, duty_by};
 
-use answers::Outcome;
+use answers::Refusal;
 use figures::TimeFigures;
 use generator::{Shape, Wave};
 use port::Port;
@@ -34,7 +34,7 @@ pub struct State {
 // How a call ended, and the state.
 #[derive(Clone, Copy, Drop)]
 pub struct Answer {
-    pub outcome: Outcome,
+    pub outcome: Result<(), Refusal>,
     pub state: State,
 }
 
@@ -61,12 +61,12 @@ pub fn new_power_port(
     ensures { left result samples.new ≡ new_port_by voltage current frequency edition samples.old }
 {
     let made = new(Wave::DC, voltage, 0.0, edition, samples);
-    if answers::number_of(made.outcome) != 0 {
-        return made;
-    }
-    Answer {
-        outcome: made.outcome,
-        state: parts::as_port(made.state, voltage, current, frequency),
+    match made.outcome {
+        Ok(()) => Answer {
+            outcome: Ok(()),
+            state: parts::as_port(made.state, voltage, current, frequency),
+        },
+        Err(_) => made,
     }
 }
 
@@ -90,14 +90,18 @@ pub fn set_duty_cycle(state: State, duty_cycle: f32, samples: &mut [f32]) -> Ans
 pub fn reset_waveform(state: State, samples: &mut [f32]) -> Answer
     ensures { left result samples.new ≡ reset_of state samples.old }
 {
-    let outcome = spectrum::parts::judged(samples.len(), false);
-    if answers::number_of(outcome) != 0 {
-        return Answer { outcome, state };
-    }
-    samples.fill(0.0);
-    Answer {
-        outcome: Outcome::Done,
-        state: parts::silenced(state),
+    match spectrum::parts::judged(samples.len(), false) {
+        Ok(()) => {
+            samples.fill(0.0);
+            Answer {
+                outcome: Ok(()),
+                state: parts::silenced(state),
+            }
+        }
+        Err(refusal) => Answer {
+            outcome: Err(refusal),
+            state,
+        },
     }
 }
 

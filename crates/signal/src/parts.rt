@@ -1,5 +1,6 @@
 // What the calls are made of.
 ghost use Rattle.std.specs.Prelude.{◌≡◌, true, ℕ, ◌≤◌, length};
+ghost use Rattle.answers.specs.Numbers.{done};
 ghost use Rattle.answers.specs.Left.{left};
 ghost use Rattle.laws.specs.Filled.{filled};
 ghost use Rattle.laws.specs.Literals.{zero32};
@@ -9,7 +10,7 @@ ghost use Rattle.signal.specs.Calls.{answer, made, remade};
 ghost use Rattle.signal.specs.Editions.{remade_by};
 
 use crate::{Answer, Metrics, State};
-use answers::Outcome;
+use answers::Refusal;
 use figures::{TimeFigures, ZERO_FIGURES};
 use generator::{Shape, Wave};
 use port::Port;
@@ -135,14 +136,14 @@ fn measure(top: usize, state: State, samples: &[f32]) -> State
         port,
         metrics: before,
     } = state;
-    let answer = figures::calculate_time_figures(
+    let figures = figures::calculate_time_figures(
         shape.wave,
         shape.amplitude,
         shape.frequency,
         before.figures,
         samples,
-    );
-    let figures = answer.figures;
+    )
+    .unwrap_or(before.figures);
     let voltage = voltage_of(shape.wave, figures);
     let thd = distortion::parts::thd(samples, shape.frequency, top, before.thd);
     State {
@@ -160,10 +161,11 @@ fn measure(top: usize, state: State, samples: &[f32]) -> State
 fn make(top: usize, state: State, samples: &mut [f32]) -> State
     requires samples_value { on_grid (length samples.old) ≡ true }
     requires le_top { (1 ≤ top) × (top ≤ 65536) }
-    ensures { left (answer Outcome.Done result) samples.new ≡ made top state samples.old }
+    ensures { left (answer done result) samples.new ≡ made top state samples.old }
 {
     let shape = state.shape;
-    generator::generate_samples(
+    // more samples than are generated are off the grid
+    let _ = generator::generate_samples(
         shape.wave,
         shape.amplitude,
         shape.phase,
@@ -179,16 +181,15 @@ fn remake(top: usize, earlier: State, next: State, samples: &mut [f32]) -> Answe
     requires { (1 ≤ top) × (top ≤ 65536) }
     ensures { left result samples.new ≡ remade top earlier next samples.old }
 {
-    let outcome = spectrum::parts::judged(samples.len(), false);
-    if answers::number_of(outcome) != 0 {
-        return Answer {
-            outcome,
+    match spectrum::parts::judged(samples.len(), false) {
+        Ok(()) => Answer {
+            outcome: Ok(()),
+            state: make(top, next, samples),
+        },
+        Err(refusal) => Answer {
+            outcome: Err(refusal),
             state: earlier,
-        };
-    }
-    Answer {
-        outcome: Outcome::Done,
-        state: make(top, next, samples),
+        },
     }
 }
 
@@ -200,7 +201,7 @@ pub fn remake_by(edition: u8, before: State, next: State, samples: &mut [f32]) -
     let top = distortion::editions::highest_order(edition);
     if top == 0 {
         return Answer {
-            outcome: Outcome::UnknownEdition,
+            outcome: Err(Refusal::UnknownEdition),
             state: before,
         };
     }

@@ -1,8 +1,7 @@
 -- The spectrum with lent scratch: the n sines that a length needs. Definitions only.
 use Rattle.std.specs.Prelude.{◌≡◌, ℕ, ◌<◌, ◌≤◌, ◌||◌, List, length, nat_lt, slice_index_or, Float}
 use Rattle.std.specs.Float.{nan}
-use Rattle.answers.specs.declared.Outcome.{Outcome}
-use Rattle.answers.specs.Numbers.{if_done}
+use Rattle.answers.specs.Numbers.{Outcome, if_done}
 use Rattle.answers.specs.Left.{Left, left}
 use Rattle.laws.specs.Filled.{filled}
 use Rattle.quarter.specs.Turn.{sine_of}

@@ -2,9 +2,8 @@
 use Rattle.std.specs.Prelude.{ℕ, ◌/◌, Bool, cond, not, List, length, ◌==◌, from_bits, nat_lt, Float}
 use Rattle.std.specs.Float.{binary32}
 use Rattle.std.specs.Float.Ieee.{div}
-use Rattle.answers.specs.declared.Outcome.{Outcome}
-use Rattle.answers.specs.declared.Outcome.TheVariants.{Done, OutputShort, TooLong, OffGrid}
-use Rattle.answers.specs.Numbers.{if_done, too_long, refuse}
+use Rattle.answers.specs.Numbers.{Outcome, done, if_done, too_long, refuse}
+use Rattle.answers.specs.declared.Refusal.TheVariants.{OutputShort, TooLong, OffGrid}
 use Rattle.answers.specs.Left.{Left, left}
 use Rattle.laws.specs.Filled.{filled}
 use Rattle.spectrum.specs.Grid.{on_grid}
@@ -19,7 +18,7 @@ bin_of xs k = halved k (magnitude_of xs k)
 
 -- 01, "Where several hold: 3, 1, 4, 2": n samples, and whether what was lent is too short
 unfoldable pub outcome_of : ℕ → Bool → Outcome
-outcome_of n short = refuse (too_long n) TooLong (refuse (not (on_grid n)) OffGrid (refuse short OutputShort Done))
+outcome_of n short = refuse (too_long n) TooLong (refuse (not (on_grid n)) OffGrid (refuse short OutputShort done))
 
 -- 01, "a lent output is shorter than what must be written"
 abbrev pub output_short : List Float → List Float → Bool

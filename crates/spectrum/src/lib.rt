@@ -8,7 +8,7 @@ ghost use Rattle.spectrum.specs.Grid.{on_grid};
 ghost use Rattle.spectrum.specs.Spectrum.{bins, spectrum_of};
 ghost use Rattle.spectrum.specs.Sines.{sine_at, spectrum_in};
 
-use answers::Outcome;
+use answers::Refusal;
 
 pub mod parts;
 mod several;
@@ -26,16 +26,14 @@ fn fill(samples: &[f32], output: &mut [f32])
 }
 
 // The magnitude spectrum of the samples.
-pub fn dft_magnitude_spectrum(samples: &[f32], output: &mut [f32]) -> Outcome
+#[tactic(auto, using(crate::proofs::Ends::none_holds, answers::proofs::Ended::if_done_lem, answers::proofs::Ended::if_refused), unfolding(crate::specs::Spectrum::spectrum_of))]
+pub fn dft_magnitude_spectrum(samples: &[f32], output: &mut [f32]) -> Result<(), Refusal>
     ensures { left result output.new ≡ spectrum_of samples.now output.old }
 {
     let n = samples.len();
-    let outcome = parts::judged(n, output.len() < n / 2);
-    if answers::number_of(outcome) != 0 {
-        return outcome;
-    }
+    parts::judged(n, output.len() < n / 2)?;
     fill(samples, output);
-    outcome
+    Ok(())
 }
 
 // The sines into the scratch, and then the bins: four at a time where there are as many.
@@ -55,19 +53,17 @@ fn fill_in(samples: &[f32], scratch: &mut [f64], output: &mut [f32])
 }
 
 // The same spectrum, several bins at a time. The scratch is lent for the sines, one for each sample, and holds them afterwards.
+#[tactic(auto, using(crate::proofs::Ends::none_holds, crate::proofs::Ends::room_for_both, answers::proofs::Ended::if_done_lem, answers::proofs::Ended::if_refused), unfolding(crate::specs::Sines::spectrum_in))]
 pub fn dft_magnitude_spectrum_in(
     samples: &[f32],
     scratch: &mut [f64],
     output: &mut [f32],
-) -> Outcome
+) -> Result<(), Refusal>
     ensures { left result (output.new, scratch.new)
         ≡ spectrum_in samples.now scratch.old output.old }
 {
     let n = samples.len();
-    let outcome = parts::judged(n, (output.len() < n / 2) | (scratch.len() < n));
-    if answers::number_of(outcome) != 0 {
-        return outcome;
-    }
+    parts::judged(n, (output.len() < n / 2) | (scratch.len() < n))?;
     fill_in(samples, scratch, output);
-    outcome
+    Ok(())
 }

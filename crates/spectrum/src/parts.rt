@@ -4,7 +4,7 @@ ghost use Rattle.spectrum.specs.Grid.{on_grid};
 ghost use Rattle.spectrum.specs.Bin.{turned, sums_of, size_of, magnitude_of};
 ghost use Rattle.spectrum.specs.Spectrum.{halved, outcome_of};
 
-use answers::Outcome;
+use answers::Refusal;
 
 // A length on the grid is 0, or divides 4,096.
 pub fn on_grid(n: usize) -> bool
@@ -18,19 +18,19 @@ pub fn on_grid(n: usize) -> bool
 
 // The refusals in their order, of n samples and of what was lent.
 #[tactic(auto, unfolding(crate::specs::Spectrum::outcome_of))]
-pub fn judged(n: usize, short: bool) -> Outcome
+pub fn judged(n: usize, short: bool) -> Result<(), Refusal>
     ensures { result ≡ outcome_of n short }
 {
     if n > answers::LONGEST {
-        return Outcome::TooLong;
+        return Err(Refusal::TooLong);
     }
     if !on_grid(n) {
-        return Outcome::OffGrid;
+        return Err(Refusal::OffGrid);
     }
     if short {
-        return Outcome::OutputShort;
+        return Err(Refusal::OutputShort);
     }
-    Outcome::Done
+    Ok(())
 }
 
 // The real and the imaginary sum of a bin.

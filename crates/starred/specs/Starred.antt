@@ -1,12 +1,12 @@
 -- 01, 'Examples to hold it against': "Starred ones are proved." One row for each star, in 01's order and words, and behind them those of document 02; and one
 -- statement: the definitions that the contracts cite give what the table says. Assumes nothing.
-use Rattle.std.specs.Prelude.{ℕ, ◌≡◌, refl, List, [], ◌∷◌, ◌++◌, map, ℤ, pos, negsuc, Float}
+use Rattle.std.specs.Prelude.{ℕ, ◌≡◌, refl, List, [], ◌∷◌, ◌++◌, map, ℤ, pos, negsuc, Float, Result, Ok, Err}
 use Rattle.std.specs.Int.Count.{count_trailing_zeros}
 use Rattle.std.specs.Float.{nan, binary32}
 use Rattle.std.specs.Float.Ieee.{add, sub, mul, div, neg, sum, round, units, odd, size, span, climb, lt, le, of_int, of_bits, of_fields}
-use Rattle.answers.specs.declared.Measured.{Measured}
-use Rattle.answers.specs.declared.Outcome.{Outcome}
-use Rattle.answers.specs.declared.Outcome.TheVariants.{Done, LengthsDiffer}
+use Rattle.answers.specs.declared.Refusal.{Refusal}
+use Rattle.answers.specs.Numbers.{Outcome, done}
+use Rattle.answers.specs.declared.Refusal.TheVariants.{LengthsDiffer}
 use Rattle.answers.specs.Numbers.{if_done}
 use Rattle.answers.specs.Left.{Left, left}
 use Rattle.laws.specs.Filled.{filled}
@@ -16,8 +16,8 @@ use Rattle.laws.specs.Quotients.{ratio_or_zero}
 use Rattle.laws.specs.Samples.{higher, lower}
 use Rattle.laws.specs.Walks.{over, pairs}
 use Rattle.number.specs.Number.{narrow, root, whole_root, root_in, abs, narrowed_root}
-use Rattle.power.specs.declared.PowerAnswer.{PowerAnswer}
-use Rattle.power.specs.Power.{sum_to, mean64, active_of, apparent_of, above_zero, nonactive_of, record_of, zero_power, answered, power_of, outcome_of as powerOutcome, answer_of}
+use Rattle.power.specs.declared.Power.{Power}
+use Rattle.power.specs.Power.{sum_to, mean64, active_of, apparent_of, above_zero, nonactive_of, record_of, power_of, outcome_of as powerOutcome, answer_of}
 use Rattle.timing.specs.Timing.{total_of, narrowed_mean, rises_at, first_of, crossing_at, crossings_of, frequency_from, frequency_about, frequency_answer, slew_at, steepest_of, slew_of, slew_answer}
 use Rattle.figures.specs.Levels.{max_of, min_of}
 use Rattle.figures.specs.Edges.{rise_starts, rise_grows, fall_starts, fall_grows, four_tests, rise_fall_of}
@@ -27,7 +27,7 @@ use Rattle.quarter.specs.Turn.{fraction, quadrant, sine_of, cosine_of}
 use Rattle.spectrum.specs.Grid.{lengths, on_grid}
 use Rattle.spectrum.specs.Bin.{step_of, angle_of, turned, sums_to, sums_of, size_of, magnitude_of}
 use Rattle.spectrum.specs.Spectrum.{halved, bin_of, outcome_of, spectrum_of}
-use Rattle.fundamental.specs.declared.FundamentalAnswer.{FundamentalAnswer}
+use Rattle.fundamental.specs.declared.FundamentalPower.{FundamentalPower}
 use Rattle.fundamental.specs.Fundamental.{in_phase, across, scaled_of, fundamental_with, fundamental_figures, fundamental_of, fundamental_outcome, fundamental_answer}
 use Rattle.hexadecimal.specs.Digit.{within, is_digit, digit_of}
 use Rattle.hexadecimal.specs.Code.{code_of}
@@ -49,12 +49,12 @@ pub data Call : Type 0 where
 
 -- the answers, lent slices as they are left among them
 pub data Answer : Type 0 where
-  powers : PowerAnswer → Answer
-  value : Measured → Answer
+  powers : Result Power Refusal → Answer
+  value : Result Float Refusal → Answer
   count : ℕ → Answer
   bins : Left Outcome (List Float) → Answer
   codes : ReadLeft → Answer
-  fundamentals : FundamentalAnswer → Answer
+  fundamentals : Result FundamentalPower Refusal → Answer
 
 -- how many samples the last rise has, of the edges that the time figures' rise and fall are worked out from
 abbrev pub rise_samples : List Float → ℕ
@@ -89,10 +89,10 @@ m n = neg (count32 n)
 
 -- p, nonactive, which 01 calls q, s and pf
 abbrev figures : Float → Float → Float → Float → Answer
-figures p nonactive s pf = powers (answered Done (record { p = p; nonactive = nonactive; s = s; pf = pf }))
+figures p nonactive s pf = powers (Ok (record { p = p; nonactive = nonactive; s = s; pf = pf }))
 
 abbrev number : Float → Answer
-number x = value (record { outcome = Done; value = x })
+number x = value (Ok x)
 
 abbrev ramp : List Float
 ramp = map p (0 ∷ 1 ∷ 2 ∷ 3 ∷ 4 ∷ 5 ∷ 6 ∷ 7 ∷ 8 ∷ 9 ∷ 10 ∷ [])
@@ -116,7 +116,7 @@ starred =
     -- "Power of NaN and 1: p and s NaN, q and pf 0."
     ∷ row (power (nan ∷ []) (p 1 ∷ [])) (figures nan (p 0) nan (p 0))
     -- "Lengths 2 and 1: 1."
-    ∷ row (power (p 1 ∷ p 1 ∷ []) (p 1 ∷ [])) (powers (answered LengthsDiffer zero_power))
+    ∷ row (power (p 1 ∷ p 1 ∷ []) (p 1 ∷ [])) (powers (Err LengthsDiffer))
     -- "Frequency of -1, 1, -1, 1, -1, 1 at rate 6: 3."
     ∷ row (frequency (m 1 ∷ p 1 ∷ m 1 ∷ p 1 ∷ m 1 ∷ p 1 ∷ []) (p 6)) (number (p 3))
     -- "Of -1, 1: 0."
@@ -128,13 +128,13 @@ starred =
     -- "With one more 0 after them, 9."
     ∷ row (rise (ramp ++ (p 0 ∷ []))) (count 9)
     -- "Spectrum of 1, 0, -1, 0: 0 and 1."; a third place of output stays
-    ∷ row (spectrum (p 1 ∷ p 0 ∷ m 1 ∷ p 0 ∷ []) (old ∷ old ∷ old ∷ [])) (bins (left Done (p 0 ∷ p 1 ∷ old ∷ [])))
+    ∷ row (spectrum (p 1 ∷ p 0 ∷ m 1 ∷ p 0 ∷ []) (old ∷ old ∷ old ∷ [])) (bins (left done (p 0 ∷ p 1 ∷ old ∷ [])))
     -- "Of 3, 1: 2."
-    ∷ row (spectrum (p 3 ∷ p 1 ∷ []) (old ∷ [])) (bins (left Done (p 2 ∷ [])))
+    ∷ row (spectrum (p 3 ∷ p 1 ∷ []) (old ∷ [])) (bins (left done (p 2 ∷ [])))
     -- "`0000010001FFFF00` holds the pair 1, -1."; places past the pair stay
-    ∷ row (capture text (pos 7 ∷ pos 7 ∷ []) (pos 8 ∷ pos 8 ∷ [])) (codes (left (record { outcome = Done; line = 0; pairs = 1 }) (pos 1 ∷ pos 7 ∷ [], negsuc 0 ∷ pos 8 ∷ [])))
+    ∷ row (capture text (pos 7 ∷ pos 7 ∷ []) (pos 8 ∷ pos 8 ∷ [])) (codes (left (Ok 1) (pos 1 ∷ pos 7 ∷ [], negsuc 0 ∷ pos 8 ∷ [])))
     -- 02, c: "(1, 0, -1, 0) and (0, 1, 0, -1) at bin 1 give 0 and 0.5"
-    ∷ row (fundamental (p 1 ∷ p 0 ∷ m 1 ∷ p 0 ∷ []) (p 0 ∷ p 1 ∷ p 0 ∷ m 1 ∷ []) 1) (fundamentals (record { outcome = Done; power = fundamental_with (p 0) (of_bits binary32 0x3F000000) }))
+    ∷ row (fundamental (p 1 ∷ p 0 ∷ m 1 ∷ p 0 ∷ []) (p 0 ∷ p 1 ∷ p 0 ∷ m 1 ∷ []) 1) (fundamentals (Ok (fundamental_with (p 0) (of_bits binary32 0x3F000000))))
     ∷ []
 
 -- ---- the statement

@@ -6,6 +6,7 @@ ghost use Rattle.crossing.specs.FiguresCrossing.{coded_figures};
 
 use crossing::times::CodedFigures;
 use figures::TimeFigures;
+use generator::Wave;
 
 #[unsafe(no_mangle)]
 pub extern "C" fn tj_calculate_time_figures(
@@ -15,8 +16,11 @@ pub extern "C" fn tj_calculate_time_figures(
     earlier: TimeFigures,
     samples: &[f32],
 ) -> CodedFigures
-    ensures { result ≡ coded_figures (answer_of (wave_of wave) amplitude frequency earlier samples.now) }
+    ensures { result ≡ coded_figures earlier (answer_of (wave_of wave) amplitude frequency earlier samples.now) }
 {
-    let kind = generator::wave_of(wave);
-    figures::calculate_time_figures(kind, amplitude, frequency, earlier, samples).into()
+    let kind = Wave::from(wave);
+    CodedFigures::new(
+        earlier,
+        figures::calculate_time_figures(kind, amplitude, frequency, earlier, samples),
+    )
 }

@@ -5,6 +5,8 @@ ghost use Rattle.answers.specs.Left.{left, answered_as};
 ghost use Rattle.generator.specs.Wave.{wave_of};
 ghost use Rattle.generator.specs.Sample.{shape_of, generated};
 
+use generator::Wave;
+
 #[unsafe(no_mangle)]
 pub extern "C" fn tj_generate_samples(
     wave: u8,
@@ -16,8 +18,8 @@ pub extern "C" fn tj_generate_samples(
 ) -> u8
     ensures { left result samples.new ≡ answered_as number_of (generated (shape_of (wave_of wave) amplitude phase frequency duty_cycle) samples.old) }
 {
-    let kind = generator::wave_of(wave);
-    answers::number_of(generator::generate_samples(
+    let kind = Wave::from(wave);
+    answers::code_of(generator::generate_samples(
         kind, amplitude, phase, frequency, duty_cycle, samples,
     ))
 }

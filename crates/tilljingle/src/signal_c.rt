@@ -9,6 +9,7 @@ ghost use Rattle.crossing.specs.SignalCrossing.{state_in, coded_signal};
 
 use crossing::readings::TjReading;
 use crossing::signals::{CodedSignal, TjSignal};
+use generator::Wave;
 
 #[unsafe(no_mangle)]
 pub extern "C" fn tj_signal_new(
@@ -20,7 +21,7 @@ pub extern "C" fn tj_signal_new(
 ) -> CodedSignal
     ensures { left result samples.new ≡ answered_as coded_signal (new_by (wave_of wave) amplitude frequency edition samples.old) }
 {
-    let kind = generator::wave_of(wave);
+    let kind = Wave::from(wave);
     signal::new(kind, amplitude, frequency, edition, samples).into()
 }
 

@@ -9,7 +9,7 @@ ghost use Rattle.spectrum.specs.Sines.{spectrum_in};
 pub extern "C" fn tj_dft_magnitude_spectrum(samples: &[f32], output: &mut [f32]) -> u8
     ensures { left result output.new ≡ answered_as number_of (spectrum_of samples.now output.old) }
 {
-    answers::number_of(spectrum::dft_magnitude_spectrum(samples, output))
+    answers::code_of(spectrum::dft_magnitude_spectrum(samples, output))
 }
 
 #[unsafe(no_mangle)]
@@ -21,5 +21,5 @@ pub extern "C" fn tj_dft_magnitude_spectrum_in(
     ensures { left result (output.new, scratch.new)
         ≡ answered_as number_of (spectrum_in samples.now scratch.old output.old) }
 {
-    answers::number_of(spectrum::dft_magnitude_spectrum_in(samples, scratch, output))
+    answers::code_of(spectrum::dft_magnitude_spectrum_in(samples, scratch, output))
 }

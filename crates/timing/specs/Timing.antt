@@ -1,9 +1,9 @@
 -- What `measure_frequency` and `slew_rate` answer, operation by operation (01, item 3 and 'Rules taken from the Rust'). Definitions only.
-use Rattle.std.specs.Prelude.{ℕ, ◌+◌, ◌-◌, Bool, cond, ◌&&◌, List, length, ◌==◌, nat_lt, Float}
+use Rattle.std.specs.Prelude.{ℕ, ◌+◌, ◌-◌, Bool, cond, ◌&&◌, List, length, ◌==◌, nat_lt, Result, Float}
 use Rattle.std.specs.Float.{binary32, binary64}
 use Rattle.std.specs.Float.Ieee.{add, sub, mul, div, lt, le}
-use Rattle.answers.specs.declared.Measured.{Measured}
-use Rattle.answers.specs.Measured.{measured}
+use Rattle.answers.specs.declared.Refusal.{Refusal}
+use Rattle.answers.specs.Answers.{measured}
 use Rattle.laws.specs.Literals.{zero32, zero64, one32, count32, count64}
 use Rattle.laws.specs.Samples.{higher}
 use Rattle.laws.specs.Walks.{over, pairs}
@@ -76,8 +76,8 @@ slew_of xs rate = cond (le rate zero32) zero32 (steepest_of (div binary32 one32 
 
 -- ---- the answers
 
-unfoldable pub frequency_answer : List Float → Float → Measured
+unfoldable pub frequency_answer : List Float → Float → Result Float Refusal
 frequency_answer xs rate = measured (length xs) (frequency_of xs rate)
 
-unfoldable pub slew_answer : List Float → Float → Measured
+unfoldable pub slew_answer : List Float → Float → Result Float Refusal
 slew_answer xs rate = measured (length xs) (slew_of xs rate)

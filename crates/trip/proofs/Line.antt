@@ -11,8 +11,7 @@ use lib.IntN.{ℤ}
 use Rattle.hexadecimal.specs.Digit.{is_digit, hex_pair, hex_word}
 use Rattle.hexadecimal.specs.Code.{code_of, bits_of}
 use Rattle.hexadecimal.proofs.Laws.{char_value, char_digit, bits_lt, bits_back, pair_length, word_length}
-use Rattle.frame.specs.Line.{pair_at, word_at, all_digits, sum_of, sequence_of, count_of, line_of, run_codes, codes_by, line_codes}
-use Rattle.frame.specs.declared.Line.TheVariants.{Frame}
+use Rattle.frame.specs.Line.{pair_at, word_at, all_digits, sum_of, sequence_of, count_of, a_frame, line_of, run_codes, codes_by, line_codes}
 use Rattle.frame.proofs.Exact.{Formed, frame}
 use Rattle.writing.specs.Text.{codes_text, body_text, closing, line_text}
 use Rattle.writing.proofs.Laws.{body_length}
@@ -189,9 +188,9 @@ module _ (number : ℕ) (vs ws : List ℤ) (fits : number < 65536) (same : lengt
   unfolding count_of
   sealed_form = record { digits = sealed_digits; least = omega (arith, sealed_count); most = omega (arith, sealed_count); long = omega (arith, sealed_count, sealed_length) }
 
-  pub sealed_frame : line_of (sealed number vs ws) ≡ Frame number (length vs)
+  pub sealed_frame : line_of (sealed number vs ws) ≡ a_frame number (length vs)
   unfolding sequence_of count_of
-  sealed_frame = frame (sealed number vs ws) sealed_form sealed_sum ∙ ap₂ Frame sealed_number sealed_count
+  sealed_frame = frame (sealed number vs ws) sealed_form sealed_sum ∙ ap₂ a_frame sealed_number sealed_count
 
   head : List ℕ
   head = hex_word number ++ hex_pair (length vs)

@@ -1,6 +1,7 @@
 -- Reading what was written gives the same codes. Assumes nothing.
 use mathlib.Core.Path.{◌≡◌, refl, sym, ap, ap₂, ◌∙◌, subst}
 use mathlib.Core.List.{List, [], ◌∷◌, ◌++◌}
+use Rattle.std.specs.Prelude.{Ok}
 use mathlib.Core.Bool.{Bool, true, false, ◌&&◌}
 use Prim.Native.Nat.{ℕ, zero, suc, ◌+◌, ◌-◌, ◌/◌, ◌<◌, ◌≤◌, min}
 use native.Mathlib.Omega.{arith}
@@ -10,15 +11,11 @@ use lib.IntN.{ℤ}
 use lib.Dec.{T, eqb}
 use Rattle.answers.specs.Numbers.{longest}
 use Rattle.answers.specs.Left.{left}
-use Rattle.answers.specs.declared.Outcome.TheVariants.{Done}
 use Rattle.laws.specs.Front.{onto}
 use Rattle.hexadecimal.specs.Digit.{is_digit}
-use Rattle.frame.specs.Line.{at_volts, at_amps, after, all_digits, line_of, line_codes}
-use Rattle.frame.specs.declared.Line.TheVariants.{Frame}
+use Rattle.frame.specs.Line.{at_volts, at_amps, after, all_digits, a_frame, line_of, line_codes}
 use Rattle.capture.specs.Lines.{Lines, line, add, cut, codes_of}
-use Rattle.capture.specs.declared.ReadAnswer.{ReadAnswer}
-use Rattle.capture.specs.Reading.{follows, weigh, judge, verdict_of, read_capture}
-use Rattle.capture.specs.declared.parts.Verdict.TheVariants.{Good}
+use Rattle.capture.specs.Reading.{Verdict, follows, weigh, judge, verdict_of, read_capture}
 use Rattle.capture.proofs.Cut.{feed_no_digit}
 use Rattle.capture.proofs.Answer.{read_done}
 use Rattle.writing.specs.Text.{line_text, lines_text, capture_text}
@@ -37,7 +34,7 @@ cut_digits (b ∷ l) r d = by (is_digit b) refl d (cut_digits l r)
     by false f e ih = absurd (subst T (sym e) tt)
 
 -- a frame on top of other lines
-judge_on : (any : Bool) (next n total : ℕ) (ls : Lines) (l : List ℕ) (below : Lines) → ls ≡ line l below → (number c : ℕ) → line_of l ≡ Frame number c → follows any next number ≡ true
+judge_on : (any : Bool) (next n total : ℕ) (ls : Lines) (l : List ℕ) (below : Lines) → ls ≡ line l below → (number c : ℕ) → line_of l ≡ a_frame number c → follows any next number ≡ true
     → judge any next n total ls ≡ judge false (after number) (n + 1) (total + c) below
 unfolding judge weigh
 judge_on any next n total ls l below e number c f g = rw (e, f, g)
@@ -60,7 +57,7 @@ codes_drop (suc n) (z ∷ zs) c = codes_drop n zs c.1
 -- what was written is judged good, with as many pairs, and gives the codes
 abbrev Back : Lines → ℕ → List ℤ → List ℤ → Type 0
 Back ls number vs ws =
-    ((any : Bool) (next n total : ℕ) → follows any next number ≡ true → judge any next n total ls ≡ Good (total + length vs))
+    ((any : Bool) (next n total : ℕ) → follows any next number ≡ true → judge any next n total ls ≡ Ok (total + length vs))
     × (codes_of at_volts ls ≡ vs) × (codes_of at_amps ls ≡ ws)
 
 no_codes : (zs : List ℤ) → length zs ≡ 0 → [] ≡ zs
@@ -69,7 +66,7 @@ no_codes (z ∷ zs) h = absurd (omega arith)
 
 none_back : (number : ℕ) (vs ws : List ℤ) → length vs ≡ 0 → length ws ≡ 0 → Back (cut []) number vs ws
 unfolding cut judge codes_of
-none_back number vs ws h k = (λ any next n total f. ap Good (omega arith), no_codes vs h, no_codes ws k)
+none_back number vs ws h k = (λ any next n total f. ap Ok (omega arith), no_codes vs h, no_codes ws k)
 
 module _ (number : ℕ) (vs ws : List ℤ) (r : List ℕ) (fits : number < 65536) (same : length vs ≡ length ws) (some : 0 < length vs) (vc : Codes vs) (wc : Codes ws)
     (below : Back (cut r) (after number) (drop 16 vs) (drop 16 ws)) where
@@ -97,7 +94,7 @@ module _ (number : ℕ) (vs ws : List ℤ) (r : List ℕ) (fits : number < 65536
         judge_on any next n total (cut (line_text number (take 16 vs) (take 16 ws) ++ r)) (sealed number (take 16 vs) (take 16 ws)) (cut r) is number (length (take 16 vs))
         (sealed_frame number (take 16 vs) (take 16 ws) fits tsame tsome tfew (codes_take 16 vs vc) (codes_take 16 ws wc)) f
         ∙ below.0 false (after number) (n + 1) (total + length (take 16 vs)) (same_next (after number))
-        ∙ ap Good (omega (arith, length-take 16 vs, length-drop 16 vs)),
+        ∙ ap Ok (omega (arith, length-take 16 vs, length-drop 16 vs)),
     line_codes_lem at_volts (cut (line_text number (take 16 vs) (take 16 ws) ++ r)) (sealed number (take 16 vs) (take 16 ws)) (cut r) is
         ∙ ap₂ ◌++◌ (sealed_volts number (take 16 vs) (take 16 ws) fits tsame tsome tfew (codes_take 16 vs vc) (codes_take 16 ws wc)) below.1
         ∙ take-append-drop 16 vs,
@@ -121,18 +118,18 @@ back (suc f) number vs ws k h e vc wc =
 
 -- what was written is good, with as many pairs, and holds the codes
 pub written_good : (first : ℕ) (vs ws : List ℤ) → first < 65536 → Codes vs → Codes ws → length vs ≡ length ws
-    → (verdict_of (cut (capture_text first vs ws)) ≡ Good (length vs)) × (codes_of at_volts (cut (capture_text first vs ws)) ≡ vs) × (codes_of at_amps (cut (capture_text first vs ws)) ≡ ws)
+    → (verdict_of (cut (capture_text first vs ws)) ≡ Ok (length vs)) × (codes_of at_volts (cut (capture_text first vs ws)) ≡ vs) × (codes_of at_amps (cut (capture_text first vs ws)) ≡ ws)
 unfolding capture_text verdict_of follows
 written_good first vs ws k vc wc h =
     let b = back ((length vs + 15) / 16) first vs ws k h refl vc wc in
-    (b.0 true 0 1 0 refl ∙ ap Good (omega arith), b.1, b.2)
+    (b.0 true 0 1 0 refl ∙ ap Ok (omega arith), b.1, b.2)
 
 -- THE LAW (01, "Reading its output gives the same codes"): what the writer makes of two slices of codes, the reader takes into any two slices with room,
 -- and puts the same codes there; places past them stay
 pub round_trip : (first : ℕ) (vs ws volts amps : List ℤ) → first < 65536 → Codes vs → Codes ws
     → length vs ≡ length ws → length vs ≤ longest → length vs ≤ length volts → length vs ≤ length amps
-    → read_capture (capture_text first vs ws) volts amps ≡ left (record { outcome = Done; line = 0; pairs = length vs }) (onto vs volts, onto ws amps)
+    → read_capture (capture_text first vs ws) volts amps ≡ left (Ok (length vs)) (onto vs volts, onto ws amps)
 round_trip first vs ws volts amps k vc wc h m rv ra =
     let g = written_good first vs ws k vc wc h in
     sym (read_done (capture_text first vs ws) volts amps (length vs) g.0 m rv ra)
-    ∙ ap₂ (λ (x y : List ℤ). left {A = ReadAnswer} {B = List ℤ × List ℤ} (record { outcome = Done; line = 0; pairs = length vs }) (onto x volts, onto y amps)) g.1 g.2
+    ∙ ap₂ (λ (x y : List ℤ). left {A = Verdict} {B = List ℤ × List ℤ} (Ok (length vs)) (onto x volts, onto y amps)) g.1 g.2

@@ -2,7 +2,7 @@ use Rattle.std.proofs.Common.{ap, arith, ◌<◌, ◌≤◌, length}
 use borrow.Author.Tests.{le-ltb, lt-ltb}
 use Rattle.std.proofs.lemmas.List.{append-nil, get_or_default, take_all, drop_all}
 use Rattle.std.proofs.lemmas.List.Edits.{map_over_more}
-use Rattle.answers.specs.declared.Outcome.TheVariants.{Done}
+use Rattle.answers.specs.Numbers.{done}
 use Rattle.answers.specs.Left.{left}
 use Rattle.samples.specs.Samples.{each}
 use Rattle.samples.proofs.each.Goals as goal
@@ -20,4 +20,4 @@ pub returns : goal.returns
 unfolding each
 returns g c =
     let h : length c.args.samples.now ≤ c.loop-x.x-index = c.loop-x-test.false in
-    simp (le-ltb _ _ c.if-samples-gt-LONGEST.false) (ap (left Done) (rw (take_all _ _ h, drop_all _ _ h, append-nil) at c.loop-x.invariant))
+    simp (le-ltb _ _ c.if-samples-gt-LONGEST.false) (ap (left done) (rw (take_all _ _ h, drop_all _ _ h, append-nil) at c.loop-x.invariant))

@@ -5,13 +5,12 @@ use Rattle.signal.specs.Editions.{new_by}
 use Rattle.signal.proofs.Ends.{port_refused, port_done}
 use Rattle.signal.proofs.new_power_port.Goals as goal
 
-pub returns-then-number_of-ne0 : goal.returns-then-number_of-ne0
-returns-then-number_of-ne0 c =
+pub returns-in-Ok : goal.returns-in-Ok
+returns-in-Ok c =
     let args = c.args in
-    port_refused _ _ _ (new_by DC args.voltage zero32 args.edition args.samples.now) _ c.new-made.result _ c.number_of.ensures c.new-made.ensures c.if-number_of-ne0.true
+    port_done _ _ _ (new_by DC args.voltage zero32 args.edition args.samples.now) _ c.new-made.result c.new-made.ensures _ _ c.in-Ok.is c.as_port.ensures
 
-pub returns : goal.returns
-returns c =
+pub returns-in-Err : goal.returns-in-Err
+returns-in-Err c =
     let args = c.args in
-    port_done _ _ _ (new_by DC args.voltage zero32 args.edition args.samples.now) _ c.new-made.result _ c.number_of.ensures c.new-made.ensures _
-    c.if-number_of-ne0.false c.as_port.ensures
+    port_refused _ _ _ (new_by DC args.voltage zero32 args.edition args.samples.now) _ c.new-made.result c.new-made.ensures _ c.in-Err.is

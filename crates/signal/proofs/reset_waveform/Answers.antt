@@ -13,12 +13,12 @@ unfolding filled
 all_of x [] = refl
 all_of x (o ∷ xs) = ap (λ (l : List Float). x ∷ l) (all_of x xs)
 
-pub returns-then-number_of-ne0 : goal.returns-then-number_of-ne0
+pub returns-in-Ok : goal.returns-in-Ok
 unfolding reset_of
-returns-then-number_of-ne0 c = refused _ _ _ _ _ c.judged-outcome.ensures c.number_of.ensures c.if-number_of-ne0.true
-
-pub returns : goal.returns
-unfolding reset_of
-returns c =
+returns-in-Ok c =
     rw (c.silenced.ensures, c.fill.ensures.after (λ y e. e) ∙ all_of zero32 c.args.samples.now)
-    (sym (taken _ _ _ _ _ c.judged-outcome.ensures c.number_of.ensures c.if-number_of-ne0.false))
+    (sym (taken _ _ _ _ c.in-Ok.ensures))
+
+pub returns-in-Err : goal.returns-in-Err
+unfolding reset_of
+returns-in-Err c = refused _ _ _ _ c.in-Err.ensures

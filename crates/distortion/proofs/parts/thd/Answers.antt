@@ -1,5 +1,5 @@
 -- `distortion::parts::thd` meets its contract. Assumes nothing.
-use Rattle.std.proofs.Common.{sym, refl, ◌∙◌}
+use Rattle.std.proofs.Common.{sym, ◌∙◌}
 use Rattle.quarter.specs.Table.{quarter_table}
 use Rattle.spectrum.proofs.Grid.{grid_le}
 use Rattle.distortion.proofs.Orders.{usable_bin}

@@ -3,4 +3,4 @@ use Rattle.crossing.proofs.signals.CodedSignalFromAnswer.from.Goals as goal
 
 pub returns : goal.returns
 unfolding coded_signal
-returns c = rw (c.number_of.ensures, c.into.ensures)
+returns c = rw (c.code_of.ensures, c.into.ensures)

@@ -3,4 +3,4 @@ use Rattle.crossing.proofs.signals.StateFromTjSignal.from.Goals as goal
 
 pub returns : goal.returns
 unfolding state_in
-returns c = rw (c.wave_of.ensures, c.into.ensures)
+returns c = rw (c.into.ensures, c.into-2.ensures)

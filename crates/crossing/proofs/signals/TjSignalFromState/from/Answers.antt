@@ -3,4 +3,4 @@ use Rattle.crossing.proofs.signals.TjSignalFromState.from.Goals as goal
 
 pub returns : goal.returns
 unfolding state_out
-returns c = rw (c.wave_number.ensures, c.into.ensures)
+returns c = rw (c.into.ensures, c.into-2.ensures)
