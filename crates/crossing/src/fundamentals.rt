@@ -18,17 +18,14 @@ impl From<Result<FundamentalPower, Refusal>> for CodedFundamental {
     ghost from_gives = { λ a coded. coded ≡ coded_fundamental a };
 
     fn from(a: Result<FundamentalPower, Refusal>) -> CodedFundamental {
-        match a {
-            Ok(power) => CodedFundamental {
-                code: 0,
-                active: power.active,
-                reactive: power.reactive,
-            },
-            Err(refusal) => CodedFundamental {
-                code: number_of(refusal),
-                active: 0.0,
-                reactive: 0.0,
-            },
+        let (code, power) = match a {
+            Ok(power) => (0, power),
+            Err(refusal) => (number_of(refusal), fundamental::ZERO),
+        };
+        CodedFundamental {
+            code,
+            active: power.active,
+            reactive: power.reactive,
         }
     }
 }

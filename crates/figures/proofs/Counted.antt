@@ -9,7 +9,7 @@ use Rattle.answers.specs.Numbers.{longest}
 use Rattle.answers.specs.Answers.{told}
 use Rattle.counts.proofs.Finite.{zero_exactly}
 use Rattle.figures.specs.Figures.{figures_of, answer_of}
-use Rattle.figures.specs.Counted.{CountsMeasured, CountsKept, FromFinite}
+use Rattle.figures.specs.Counted.{CountsMeasured, CountsKept, LongRefused, FromFinite}
 
 pub counts_measured : CountsMeasured
 unfolding answer_of figures_of
@@ -24,6 +24,10 @@ counts_kept wave amplitude frequency earlier xs h = ⊎_elim none (λ l. rw (lt-
   where
     none : length xs ≡ 0 → told earlier (answer_of wave amplitude frequency earlier xs) ≡ earlier
     none e = rw e
+
+pub long_refused : LongRefused
+unfolding answer_of
+long_refused wave amplitude frequency earlier xs l = rw (lt-ltb longest (length xs) l)
 
 pub from_finite : FromFinite
 from_finite wave amplitude frequency earlier xs m =

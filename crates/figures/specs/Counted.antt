@@ -1,5 +1,6 @@
 -- What the two counts of the record that is handed out say (02, h). Definitions only; each claim is proved in proofs/Counted.antt.
-use Rattle.std.specs.Prelude.{◌≤◌, ◌<◌, ◌≡◌, ◌⊎◌, List, length, Float}
+use Rattle.std.specs.Prelude.{◌≤◌, ◌<◌, ◌≡◌, ◌⊎◌, List, length, Float, Err}
+use Rattle.answers.specs.declared.Refusal.TheVariants.{TooLong}
 use Rattle.answers.specs.Numbers.{longest}
 use Rattle.answers.specs.Answers.{told}
 use Rattle.generator.specs.declared.Wave.{Wave}
@@ -22,11 +23,17 @@ CountsMeasured =
     (wave : Wave) (amplitude frequency : Float) (earlier : TimeFigures) (xs : List Float) → IsMeasured xs
     → HasCounts xs (told earlier (answer_of wave amplitude frequency earlier xs))
 
--- 02, h: "with no samples the earlier counts come back with the earlier record", and so they do in a refusal (`counts_kept`)
+-- 02, h: "with no samples the earlier counts come back with the earlier record", and so they are told where the call is refused (`counts_kept`)
 abbrev pub CountsKept : Type 0
 CountsKept =
     (wave : Wave) (amplitude frequency : Float) (earlier : TimeFigures) (xs : List Float) → (length xs ≡ 0) ⊎ (longest < length xs)
     → told earlier (answer_of wave amplitude frequency earlier xs) ≡ earlier
+
+-- which it is, of more samples than are taken: whoever handed the earlier record in has it (`long_refused`)
+abbrev pub LongRefused : Type 0
+LongRefused =
+    (wave : Wave) (amplitude frequency : Float) (earlier : TimeFigures) (xs : List Float) → longest < length xs
+    → answer_of wave amplitude frequency earlier xs ≡ Err TooLong
 
 abbrev pub BothZeroIn : TimeFigures → Type 0
 BothZeroIn r = (r.not_numbers ≡ 0) × (r.infinite ≡ 0)

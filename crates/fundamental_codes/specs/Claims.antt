@@ -10,7 +10,7 @@ use Rattle.fundamental_codes.specs.Exact.{exact_active, exact_reactive, active_s
 
 -- ---- the figures are numbers
 
--- neither figure is an infinity or a NaN, at any length and bin: what a refusal returns is zero
+-- neither figure is an infinity or a NaN, at any length and bin: what is told of a refusal is zero
 abbrev pub BothFinite : Type 0
 BothFinite =
     (v i : List Float) (x y : ℕ → ℤ) (k : ℕ) → Capture v x → Capture i y

@@ -5,7 +5,7 @@ ghost use Rattle.quarter.specs.Turn.{fraction, folded, sine_of, cosine_of};
 
 use crate::entries::QUARTER;
 
-// One entry. Its proof shows that the constant is the definition's table.
+// One entry. Its proof shows that the static is the definition's table.
 pub fn entry(j: usize) -> u32
     requires { j ≤ 1024 }
     ensures { result ≡ t j }

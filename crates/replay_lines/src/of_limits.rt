@@ -1,6 +1,7 @@
 // The limit of 65,536: codes and captures that are too long for a line, and are made here. Voltage codes are 7 and current codes 8, first numbers 0.
-use crate::{of_capture, of_codes};
+use crate::of_codes;
 use answers::LONGEST;
+use crossing::captures::{CodedRead, CodedWritten};
 use replaying::lists::{MOST, first, first_mut};
 use replaying::read::behind;
 use replaying::said::Said;
@@ -35,16 +36,15 @@ fn put_text(text: &mut [u8]) {
 }
 
 fn read_into(line: &[u8], text: &[u8], volts: &mut [i16], amps: &mut [i16]) -> Said {
-    let r = capture::read_capture(
+    let r = CodedRead::from(capture::read_capture(
         first(text, read::size(line, 4)),
         first_mut(volts, read::size(line, 5)),
         first_mut(amps, read::size(line, 6)),
-    );
-    let (outcome, at, pairs) = of_capture::read_so(r);
-    let right = at == read::size(line, 7)
-        && pairs == read::size(line, 8)
+    ));
+    let right = r.line == read::size(line, 7)
+        && r.pairs == read::size(line, 8)
         && [9, 11, 13].iter().all(|i| same_pair(line, *i, volts, amps));
-    said::where_right(right, outcome)
+    said::where_right(right, said::code(u32::from(r.code)))
 }
 
 // The length of the text, the rooms, the line and the pairs answered, three places and what stands there afterwards. Before, 5 and 6 stand in the rooms.
@@ -57,16 +57,15 @@ fn read_long(line: &[u8], text: &mut [u8]) -> Said {
 
 // The counts of codes, the room, the bytes answered, three places and what stands there afterwards.
 fn write_long(line: &[u8], text: &mut [u8]) -> Said {
-    let r = writing::write_capture(
+    let r = CodedWritten::from(writing::write_capture(
         first(&[7; MOST], read::size(line, 4)),
         first(&[8; MOST], read::size(line, 5)),
         0,
         first_mut(text, read::size(line, 6)),
-    );
-    let (outcome, bytes) = of_capture::written_so(r);
-    let right = bytes == read::size(line, 7)
+    ));
+    let right = r.bytes == read::size(line, 7)
         && [8, 10, 12].iter().all(|i| same_byte(line, *i, text));
-    said::where_right(right, outcome)
+    said::where_right(right, said::code(u32::from(r.code)))
 }
 
 // ---- the cases

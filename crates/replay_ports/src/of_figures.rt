@@ -1,4 +1,5 @@
 // The time record: 19 figures and two counts.
+use crossing::times::CodedFigures;
 use figures::TimeFigures;
 use replaying::said::Said;
 use replaying::{read, records};
@@ -40,9 +41,6 @@ pub fn call(line: &[u8], a: &[f32]) -> Said {
         earlier,
         a,
     );
-    let (outcome, figures) = match answer {
-        Ok(figures) => (Ok(()), figures),
-        Err(refusal) => (Err(refusal), earlier),
-    };
-    records::counted(line, 28, outcome, figures, &records::figures(figures))
+    let CodedFigures { code, figures } = CodedFigures::new(earlier, answer);
+    records::counted(line, 28, code, figures, &records::figures(figures))
 }

@@ -1,6 +1,7 @@
 // The sequences on a signal that keeps its samples: three make it of a wave, an amplitude and a frequency, and one of a port's readings;
 // then comes the edition.
 use crate::of_signal;
+use figures::ZERO_FIGURES;
 use replaying::said::Said;
 use replaying::{read, records, said};
 
@@ -39,14 +40,10 @@ fn measured(line: &[u8], out: &mut [f32]) -> Said {
         out,
     );
     match answer {
-        Ok(metrics) => records::counted(
-            line,
-            9,
-            Ok(()),
-            metrics.figures,
-            &of_signal::metrics(metrics),
-        ),
-        Err(refusal) => said::refused(refusal),
+        Ok(metrics) => records::counted(line, 9, 0, metrics.figures, &of_signal::metrics(metrics)),
+        Err(refusal) => {
+            records::counted(line, 9, answers::number_of(refusal), ZERO_FIGURES, &[])
+        }
     }
 }
 

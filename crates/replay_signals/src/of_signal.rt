@@ -115,7 +115,13 @@ fn list(state: State) -> [f32; ROOM] {
 // The counts are those at the words i and i + 1.
 pub fn answered(line: &[u8], i: usize, a: Answer) -> Said {
     let figures = signal::get_metrics(a.state).figures;
-    records::counted(line, i, a.outcome, figures, &list(a.state))
+    records::counted(
+        line,
+        i,
+        answers::code_of(a.outcome),
+        figures,
+        &list(a.state),
+    )
 }
 
 pub fn call(line: &[u8], which: u32, out: &mut [f32]) -> Said {

@@ -1,26 +1,23 @@
 // Distortion, effective bits and the quotients. Of a quotient the first float is 0 for a ratio, 1 for no spur, 2 for an unusable bin.
 use answers::Refusal;
+use crossing::quotients::CodedQuotient;
 use quality::Sfdr;
 use replaying::said::Said;
 use replaying::{read, said};
 
 // The ratio is the f64.
 fn quotient(r: Result<Option<f64>, Refusal>) -> Said {
-    match r {
-        Ok(Some(ratio)) => said::double(ratio),
-        Ok(None) => said::float(2.0),
-        Err(refusal) => said::refused(refusal),
+    let CodedQuotient { code, kind, ratio } = CodedQuotient::from(r);
+    Said {
+        wide: ratio,
+        ..said::with_floats(code, &[f32::from(kind)])
     }
 }
 
-// The ratio is the second float.
+// The ratio, an f32 as an f64, is the second float.
 fn sfdr(r: Result<Sfdr, Refusal>) -> Said {
-    match r {
-        Ok(Sfdr::Ratio(x)) => said::floats(&[0.0, x]),
-        Ok(Sfdr::NoSpur) => said::float(1.0),
-        Ok(Sfdr::UnusableBin) => said::float(2.0),
-        Err(refusal) => said::refused(refusal),
-    }
+    let CodedQuotient { code, kind, ratio } = CodedQuotient::from(r);
+    said::with_floats(code, &[f32::from(kind), number::narrow(ratio)])
 }
 
 pub fn call(line: &[u8], which: u32, a: &[f32]) -> Said {

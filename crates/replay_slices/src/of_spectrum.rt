@@ -19,7 +19,7 @@ fn with_scratch(line: &[u8], a: &[f32], out: &mut [f32]) -> Said {
     let n = read::size(line, 4);
     let part = lists::first_mut(&mut scratch, n);
     let outcome = spectrum::dft_magnitude_spectrum_in(a, part, out);
-    said::where_right(same_sines(line, 5, n, &scratch), outcome)
+    said::where_right(same_sines(line, 5, n, &scratch), said::ended(outcome))
 }
 
 fn with_long_scratch(line: &[u8], a: &[f32], out: &mut [f32]) -> Said {
@@ -27,7 +27,7 @@ fn with_long_scratch(line: &[u8], a: &[f32], out: &mut [f32]) -> Said {
     let part = lists::first_mut(&mut scratch, read::size(line, 4));
     let outcome = spectrum::dft_magnitude_spectrum_in(a, part, out);
     let right = made::sum_of_doubles(&scratch) == read::word(line, 5);
-    said::where_right(right, outcome)
+    said::where_right(right, said::ended(outcome))
 }
 
 pub fn call(line: &[u8], which: u32, a: &[f32], out: &mut [f32]) -> Said {

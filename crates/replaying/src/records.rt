@@ -2,6 +2,7 @@
 use crate::said::Said;
 use crate::{read, said};
 use answers::Refusal;
+use crossing::powers::CodedPower;
 use figures::TimeFigures;
 use power::Power;
 
@@ -12,26 +13,18 @@ pub fn reading_at(line: &[u8], i: usize) -> Option<f32> {
 
 // p, nonactive, s and pf.
 pub fn power(r: Result<Power, Refusal>) -> Said {
-    match r {
-        Ok(power) => said::floats(&[power.p, power.nonactive, power.s, power.pf]),
-        Err(refusal) => said::refused(refusal),
-    }
+    let CodedPower { code, power } = CodedPower::from(r);
+    said::with_floats(code, &[power.p, power.nonactive, power.s, power.pf])
 }
 
-// The outcome and these, where the record's counts are the words i and i + 1; no f32 holds every count.
-pub fn counted(
-    line: &[u8],
-    i: usize,
-    outcome: Result<(), Refusal>,
-    r: TimeFigures,
-    xs: &[f32],
-) -> Said {
+// The number and these, where the record's counts are the words i and i + 1; no f32 holds every count.
+pub fn counted(line: &[u8], i: usize, code: u8, r: TimeFigures, xs: &[f32]) -> Said {
     let not_numbers = read::word(line, i);
     let infinite = read::word(line, read::behind(i, 1));
     if not_numbers != r.not_numbers || infinite != r.infinite {
         return said::nothing();
     }
-    said::with_floats(outcome, xs)
+    said::with_floats(code, xs)
 }
 
 // The 19 time figures.

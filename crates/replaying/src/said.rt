@@ -2,6 +2,7 @@
 use crate::lists::{Places, ROOM, same_number};
 use crate::{lists, read};
 use answers::Refusal;
+use crossing::measured::Figure;
 
 #[derive(Clone, Copy)]
 pub struct Said {
@@ -23,52 +24,42 @@ pub fn nothing() -> Said {
     code(255)
 }
 
-pub fn code_of(outcome: Result<(), Refusal>) -> u32 {
-    u32::from(answers::code_of(outcome))
-}
-
 pub fn ended(outcome: Result<(), Refusal>) -> Said {
-    code(code_of(outcome))
+    code(u32::from(answers::code_of(outcome)))
 }
 
-// All numbers that a refused call shows are 0.
-pub fn refused(refusal: Refusal) -> Said {
-    ended(Err(refusal))
-}
-
-// The outcome, where all else is right.
-pub fn where_right(right: bool, outcome: Result<(), Refusal>) -> Said {
+// What is said, where all else is right.
+pub fn where_right(right: bool, said: Said) -> Said {
     if !right {
         return nothing();
     }
-    ended(outcome)
+    said
 }
 
-// The outcome and these numbers.
-pub fn with_floats(outcome: Result<(), Refusal>, xs: &[f32]) -> Said {
+// The number and these f32.
+pub fn with_floats(number: u8, xs: &[f32]) -> Said {
     let mut floats = [0.0; ROOM];
     for (float, x) in floats.iter_mut().zip(xs) {
         *float = *x;
     }
     Said {
         floats,
-        ..ended(outcome)
+        ..code(u32::from(number))
     }
 }
 
 pub fn floats(xs: &[f32]) -> Said {
-    with_floats(Ok(()), xs)
+    with_floats(0, xs)
 }
 
 pub fn float(x: f32) -> Said {
     floats(&[x])
 }
 
+// Answers are compared as they cross the C boundary, where what a refused call shows is made.
 pub fn measured(m: Result<f32, Refusal>) -> Said {
-    match m {
-        Ok(x) => float(x),
-        Err(refusal) => refused(refusal),
-    }
+    let figure = Figure::from(m);
+    with_floats(figure.code, &[figure.value])
 }
 
 pub fn double(wide: f64) -> Said {

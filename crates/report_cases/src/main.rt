@@ -6,9 +6,8 @@ use writing::write_capture;
 
 // Zero codes in a capture that fills `text`; 4,096 pairs take 35,072 bytes, and 4,097 take 35,089.
 fn print_zeros<R: Print + Eprint>(rt: &R, codes: &[i16], text: &mut [u8]) {
-    if write_capture(codes, codes, 65535, text).is_ok() {
-        print_report(rt, text);
-    }
+    let _ = write_capture(codes, codes, 65535, text);
+    print_report(rt, text);
 }
 
 fn main(rt: HostRuntime) {

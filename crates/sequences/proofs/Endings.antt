@@ -12,7 +12,7 @@ use Rattle.answers.specs.Numbers.{Outcome}
 use Rattle.answers.specs.Answers.{given}
 use Rattle.answers.specs.Left.{Left, left, answered_as}
 use Rattle.answers.specs.Numbers.{number_of}
-use Rattle.answers.proofs.Ended.{if_not_zero, if_zero, ended_given, told_given}
+use Rattle.answers.proofs.Ended.{if_not_zero, if_zero, ended_given, told_given, given_refused}
 use Rattle.laws.specs.Literals.{zero32}
 use Rattle.generator.specs.declared.Wave.{Wave}
 use Rattle.signal.specs.declared.Metrics.{Metrics}
@@ -22,7 +22,7 @@ use Rattle.signal.specs.Sequence.{setting, duty}
 use Rattle.signal.specs.Editions.{new_by, new_port_by, outcome_by, next_by}
 use Rattle.signal.proofs.InEdition.{ends_new, ends_port, ends_set, named_new}
 use Rattle.sequences.specs.Told.{with_voltage, metrics_in, port_power, measured_after, power_told, ToldAsMade, PowerAsMade}
-use Rattle.sequences.specs.Told.{ToldDone, ToldRefused, PowerDone, PowerRefused, SetAfterMade}
+use Rattle.sequences.specs.Told.{ToldDone, ToldRefused, PowerDone, PowerRefused, RefusalTold, RefusalOfPower, SetAfterMade}
 use Rattle.sequences.proofs.Lengths.{new_length}
 
 -- ---- `measured`
@@ -75,6 +75,12 @@ power_done voltage current frequency edition v xs z =
 pub power_refused : PowerRefused
 power_refused voltage current frequency edition v xs n =
     told_given zero32 (new_port_by voltage current frequency edition xs).answer.outcome _ ∙ if_not_zero (new_port_by voltage current frequency edition xs).answer.outcome _ _ (λ e. n (sym (ap number_of (ends_port voltage current frequency edition xs)) ∙ e))
+
+pub refusal_told : RefusalTold
+refusal_told wave amplitude frequency edition xs c r e = sym (given_refused _ _ r (ends_new wave amplitude frequency edition xs ∙ e))
+
+pub refusal_of_power : RefusalOfPower
+refusal_of_power voltage current frequency edition v xs r e = sym (given_refused _ _ r (ends_port voltage current frequency edition xs ∙ e))
 
 pub set_after_made : SetAfterMade
 set_after_made wave amplitude frequency edition xs c z =

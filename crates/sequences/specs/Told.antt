@@ -1,5 +1,5 @@
 -- What a sequence that ends in a reading hands out, and a setting of the port on what the calls before left. Definitions only.
-use Rattle.std.specs.Prelude.{ℕ, ◌≡◌, List, length, Float, Option, Result}
+use Rattle.std.specs.Prelude.{ℕ, ◌≡◌, List, length, Float, Option, Result, Err}
 use Rattle.answers.specs.Numbers.{Outcome}
 use Rattle.answers.specs.declared.Refusal.{Refusal}
 use Rattle.answers.specs.Answers.{given, ended, told}
@@ -57,7 +57,7 @@ PowerAsMade =
     (voltage current : Float) (frequency : Option Float) (edition : ℕ) (v : Float) (xs : List Float)
     → ended (power_told (with_voltage v (new_port_by voltage current frequency edition xs)).answer) ≡ outcome_by edition (length xs)
 
--- and beside it what the last call says where it was made (`told_done`, `power_done`), and zero where it was refused (`told_refused`, `power_refused`)
+-- and beside it what the last call says where it was made (`told_done`, `power_done`), and zero is told where it was refused (`told_refused`, `power_refused`)
 abbrev pub ToldDone : Type 0
 ToldDone =
     (wave : Wave) (amplitude frequency : Float) (edition : ℕ) (xs : List Float) (c : Later) → number_of (outcome_by edition (length xs)) ≡ 0
@@ -78,6 +78,17 @@ abbrev pub PowerRefused : Type 0
 PowerRefused =
     (voltage current : Float) (frequency : Option Float) (edition : ℕ) (v : Float) (xs : List Float) → (number_of (outcome_by edition (length xs)) ≡ 0 → ⊥)
     → told zero32 (power_told (with_voltage v (new_port_by voltage current frequency edition xs)).answer) ≡ zero32
+
+-- where it was refused, that refusal is what is answered (`refusal_told`, `refusal_of_power`)
+abbrev pub RefusalTold : Type 0
+RefusalTold =
+    (wave : Wave) (amplitude frequency : Float) (edition : ℕ) (xs : List Float) (c : Later) (r : Refusal) → outcome_by edition (length xs) ≡ Err r
+    → (measured_after (new_by wave amplitude frequency edition xs) c).answer ≡ Err r
+
+abbrev pub RefusalOfPower : Type 0
+RefusalOfPower =
+    (voltage current : Float) (frequency : Option Float) (edition : ℕ) (v : Float) (xs : List Float) (r : Refusal) → outcome_by edition (length xs) ≡ Err r
+    → power_told (with_voltage v (new_port_by voltage current frequency edition xs)).answer ≡ Err r
 
 -- a setting of a signal that was made is not refused (`set_after_made`)
 abbrev pub SetAfterMade : Type 0
