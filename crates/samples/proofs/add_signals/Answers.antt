@@ -1,16 +1,16 @@
 use Rattle.std.proofs.Common.{◌≡◌, ◌<◌, length, refl, arith}
-use Rattle.laws.proofs.Filling.{filled_none, filled_next}
+use Rattle.laws.proofs.Filling.{filled_none}
 use Rattle.samples.specs.Samples.{shortest}
-use Rattle.samples.proofs.Adding.{both_fit}
+use Rattle.samples.proofs.Adding.{both_fit, one_store}
 use Rattle.samples.proofs.add_signals.Goals as goal
 
-pub loop-j-init : goal.loop-j-init
-loop-j-init c = filled_none _ _
+pub loop-block-init : goal.loop-block-init
+loop-block-init c = filled_none _ _
 
 pub loop-j-preserved : goal.loop-j-preserved
 loop-j-preserved c =
     let lt : c.loop-j.j < length c.args.output.now = omega arith in
-    filled_next _ _ _ _ _ lt refl c.loop-j.invariant
+    one_store _ _ _ _ _ _ _ c.sum_at.ensures (omega arith) refl lt c.loop-j.invariant
 
 pub returns : goal.returns
 returns c =

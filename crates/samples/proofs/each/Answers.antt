@@ -1,23 +1,25 @@
-use Rattle.std.proofs.Common.{ap, arith, ◌<◌, ◌≤◌, length}
+use Rattle.std.proofs.Common.{ap, arith, ◌≡◌, ◌+◌, ◌*◌, ◌/◌, ◌-◌, length}
 use borrow.Author.Tests.{le-ltb, lt-ltb}
-use Rattle.std.proofs.lemmas.List.{append-nil, get_or_default, take_all, drop_all}
-use Rattle.std.proofs.lemmas.List.Edits.{map_over_more}
 use Rattle.answers.specs.Numbers.{done}
 use Rattle.answers.specs.Left.{left}
 use Rattle.samples.specs.Samples.{each}
+use Rattle.samples.proofs.Blocks.{block_next, run_last}
 use Rattle.samples.proofs.each.Goals as goal
 
-pub returns-then-samples-gt-LONGEST : goal.returns-then-samples-gt-LONGEST
+pub returns-then-n-gt-LONGEST : goal.returns-then-n-gt-LONGEST
 unfolding each
-returns-then-samples-gt-LONGEST g c = simp (lt-ltb _ _ c.if-samples-gt-LONGEST.true)
+returns-then-n-gt-LONGEST g c = simp (lt-ltb _ _ c.if-n-gt-LONGEST.true)
 
-pub loop-x-preserved : goal.loop-x-preserved
-loop-x-preserved g c =
-    let lt : c.loop-x.x-index < length c.loop-x.samples = omega arith in
-    rw (c.requires.1.1 _ _ c.f.ensures) (map_over_more g.one c.args.samples.now c.loop-x.samples c.loop-x.x-index _ c.loop-x-test.true c.loop-x.invariant (get_or_default _ _ _ _ lt))
+pub loop-block-preserved : goal.loop-block-preserved
+loop-block-preserved g c =
+    let l = c.loop-block in
+    block_next g.one c.args.samples.now l.samples _ (l.block * 32) _ ((l.block + 1) * 32) (omega arith) (omega arith) l.invariant c.each_of.ensures
 
 pub returns : goal.returns
 unfolding each
 returns g c =
-    let h : length c.args.samples.now ≤ c.loop-x.x-index = c.loop-x-test.false in
-    simp (le-ltb _ _ c.if-samples-gt-LONGEST.false) (ap (left done) (rw (take_all _ _ h, drop_all _ _ h, append-nil) at c.loop-x.invariant))
+    let l = c.loop-block in
+    let s = c.args.samples.now in
+    let p = length s / 32 * 32 in
+    let e : l.block * 32 ≡ p = omega arith in
+    simp (le-ltb _ _ c.if-n-gt-LONGEST.false) (ap (left done) (run_last g.one s l.samples _ p (length l.samples - p) (omega arith) (rw e at l.invariant) c.each_of-2.ensures))
