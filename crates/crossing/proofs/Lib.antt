@@ -1,5 +1,4 @@
 -- Laws of what crosses the boundary. Assumes nothing.
 pub mod PortCrossing
 pub mod InPlace
-pub mod Maps
 pub mod SignalCrossing

@@ -2,7 +2,7 @@
 ghost use Rattle.std.specs.Prelude.{◌≡◌, map};
 ghost use Rattle.crossing.specs.PortCrossing.{reading_in, reading_out, port_in, port_out};
 
-use crate::readings::TjReading;
+use crate::readings::{ABSENT, TjReading};
 use port::Port;
 
 #[repr(C)]
@@ -39,13 +39,21 @@ pub struct TjPort {
 fn places_in(harmonics: [TjReading; 16]) -> [Option<f32>; 16]
     ensures { result ≡ map reading_in harmonics }
 {
-    harmonics.map(|r| r.into())
+    let mut places = [None; 16];
+    for i in 0..16 {
+        places[i] = harmonics[i].into();
+    }
+    places
 }
 
 fn places_out(harmonics: [Option<f32>; 16]) -> [TjReading; 16]
     ensures { result ≡ map reading_out harmonics }
 {
-    harmonics.map(|r| r.into())
+    let mut places = [ABSENT; 16];
+    for i in 0..16 {
+        places[i] = harmonics[i].into();
+    }
+    places
 }
 
 // The port that a flat record stands for, field by field.
