@@ -17,6 +17,10 @@ exported=$( (exec -a llvm-nm "$tools/bin/clang" --defined-only --extern-only "$a
 diff <(echo "$exported") <(names include/tilljingle.h) || { echo "boundary: the header declares other calls than the archive has" >&2; exit 1; }
 diff <(echo "$exported") <(names tools/boundary/*.c) || { echo "boundary: the checks make other calls than the archive has" >&2; exit 1; }
 
+# what whoever links it has to bring
+needed=$( (exec -a llvm-nm "$tools/bin/clang" --undefined-only "$archive") | sed -n 's/.* U //p' | sort -u | tr '\n' ' ')
+[ "$needed" = "memcpy memset " ] || { echo "boundary: the archive needs from outside: $needed, and README says memcpy and memset" >&2; exit 1; }
+
 compile=("$tools/bin/clang" --target=x86_64-unknown-linux-gnu -Wall -Wextra -Werror -pedantic -nostdinc -isystem tools/boundary/std -Iinclude)
 objects=()
 for file in tools/boundary/*.c; do
