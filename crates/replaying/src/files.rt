@@ -1,6 +1,7 @@
 // The files of cases, the lines in them, and the count.
-ghost use Rattle.std.specs.Prelude.{◌≡◌, ◌≤◌, length, take};
+ghost use Rattle.std.specs.Prelude.{◌≡◌, ◌<◌, ◌≤◌, length, take};
 
+use crate::read;
 use std::io::Read;
 use std::rt::Files;
 use std::{fs, io};
@@ -61,6 +62,13 @@ pub fn load<R: Files + Eprint>(rt: &R, name: &str, room: &mut [u8]) -> usize
     }
 }
 
+// How many bytes the first line of these has, as its first word says.
+fn line_size(rest: &[u8]) -> usize
+    ensures { 0 < result }
+{
+    9 * read::size(rest, 0).max(1)
+}
+
 // Counts the cases of a file, read into this room.
 fn count_file<R: Files + Eprint, A: Fn(&[u8]) -> bool>(
     rt: &R,
@@ -72,8 +80,12 @@ fn count_file<R: Files + Eprint, A: Fn(&[u8]) -> bool>(
     requires { A.IsAlwaysCallable agrees.now }
 {
     let n = load(rt, name, room);
-    for line in room[..n].split_inclusive(|b| *b == b'\n') {
+    let mut rest = &room[..n];
+    // no `for`: each line says where the next begins
+    while !rest.is_empty() {
+        let (line, behind) = rest.split_at(line_size(rest).min(rest.len()));
         tally.count(agrees(line));
+        rest = behind;
     }
 }
 

@@ -5,7 +5,9 @@ ghost use Rattle.std.specs.Prelude.{◌<◌};
 use std::num;
 
 // The value of a digit; what is no digit is 0.
-fn nibble(b: u8) -> u32 {
+fn nibble(b: u8) -> u32
+    ensures { result < 16 }
+{
     u32::from(hexadecimal::digit(b) % 16)
 }
 
