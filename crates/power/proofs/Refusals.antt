@@ -1,5 +1,5 @@
 -- Each number of 01's table is given exactly when the table says: of any two slices one of the three premises holds, and no two of them hold together.
--- What a refusal returns is zero throughout. Assumes nothing.
+-- A refusal has no record; the zeros that C is shown for it are crossing's `coded_power`. Assumes nothing.
 use Rattle.std.proofs.Common.{◌≡◌, ℕ, ◌<◌, ◌≤◌, Bool, true, false, not, eqb, ◌⊎◌, List, length, Ok, Err, sym, refl, ap, inl, inr, arith, ltb-false, le-ltb, lt-ltb, eq-eqb, ne_eqb, eqb-true}
 use lib.Ieee.{Float}
 use Rattle.answers.specs.declared.Refusal.{Refusal}
