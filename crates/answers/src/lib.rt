@@ -1,4 +1,4 @@
-// How every call of the library ends, and the longest slice that is read. A public call that can be refused answers a Result.
+// How every call of the library ends, and the longest slice that is read. A public call that can be refused answers a Result, or has one beside the state that it leaves.
 #![tactic(auto)]
 
 // Why a call is refused: the table of numbers a call can return, by name, but for its first row, `done`. `number_of` and `specs/Numbers.antt` give the numbers.

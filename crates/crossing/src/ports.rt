@@ -36,6 +36,7 @@ pub struct TjPort {
     pub temperature: TjReading,
 }
 
+// By index: `map` puts each place down and reads it again, which takes twice as long.
 fn places_in(harmonics: [TjReading; 16]) -> [Option<f32>; 16]
     ensures { result ≡ map reading_in harmonics }
 {
@@ -46,6 +47,7 @@ fn places_in(harmonics: [TjReading; 16]) -> [Option<f32>; 16]
     places
 }
 
+// By index, as `places_in`.
 fn places_out(harmonics: [Option<f32>; 16]) -> [TjReading; 16]
     ensures { result ≡ map reading_out harmonics }
 {

@@ -36,10 +36,13 @@ pub fn listed(line: &[u8], i: usize) -> List {
     }
 }
 
+// The most numbers that a call is given.
+const MOST_GIVEN: usize = 256;
+
 // The numbers that the call is given stand before them, one by one however many they are.
 pub fn placed(line: &[u8]) -> Places {
     let given = listed(line, 3);
-    let a = listed(line, behind(given.at, given.places));
+    let a = listed(line, behind(given.at, given.places.min(MOST_GIVEN)));
     let b = listed(line, a.end());
     let out = listed(line, b.end());
     Places {
@@ -96,8 +99,11 @@ impl List {
         }
     }
 
-    // Whether it stands in the first of these.
+    // Whether it stands in the first of these; of a list that is made, the sum of as many as there are decides.
     pub fn stands_in(self, line: &[u8], xs: &[f32]) -> bool {
+        if ROOM < self.places && self.places < LEVEL {
+            return made::sum(first(xs, self.places)) == read::word(line, self.at);
+        }
         let Some(xs) = xs.get(..self.places) else {
             return false;
         };
@@ -106,8 +112,6 @@ impl List {
             xs.iter()
                 .enumerate()
                 .all(|(k, x)| same_number(here(k), f64::from(*x)))
-        } else if self.places < LEVEL {
-            made::sum(xs) == read::word(line, self.at)
         } else {
             let all = f64::from(read::float(line, self.at));
             xs.iter().all(|x| same_number(all, f64::from(*x)))

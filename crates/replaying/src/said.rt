@@ -73,7 +73,7 @@ pub fn same(line: &[u8], at: Places, said: Said, after: &[f32]) -> bool {
     let wide = read::double(line, read::behind(at.said, 1));
     let floats = lists::listed(line, read::behind(at.said, 3));
     let out = lists::List {
-        at: floats.end(),
+        at: read::behind(floats.at, floats.places),
         ..at.out
     };
     read::word(line, at.said) == said.code
@@ -82,7 +82,9 @@ pub fn same(line: &[u8], at: Places, said: Said, after: &[f32]) -> bool {
         && out.stands_in(line, after)
 }
 
-// The same for a call that is given no slice to write to.
+// The same for a call that is given no slice to write to, whatever the line has of one.
 pub fn agrees(line: &[u8], said: Said) -> bool {
-    same(line, lists::placed(line), said, &[])
+    let mut at = lists::placed(line);
+    at.out.places = 0;
+    same(line, at, said, &[])
 }

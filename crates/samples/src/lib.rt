@@ -23,7 +23,7 @@ fn each_of<F: Fn(f32) -> f32>(run: &mut [f32], f: &F)
     }
 }
 
-// Puts f of each sample in its place, block by block.
+// Puts f of each sample in its place, block by block. (By index: of the library's chunks to be written to no clause says what the slice ends as.)
 fn each<F: Fn(f32) -> f32>(samples: &mut [f32], f: F) -> Result<(), Refusal>
     ghost one: { Float → Float }
     requires callable { F.IsAlwaysCallable f }
