@@ -1,7 +1,7 @@
 -- The counts of the record that is handed out are those of the samples that were measured, or the earlier ones. Assumes nothing.
 use Prim.Native.Nat.{ℕ, ◌<◌}
 use native.Mathlib.Omega.{arith}
-use mathlib.Core.Path.{◌≡◌, refl, sym, ap, ◌∙◌}
+use mathlib.Core.Path.{◌≡◌, refl, sym, ◌∙◌}
 use mathlib.Core.Logic.{⊎_elim}
 use Rattle.std.proofs.Common.{List, Ok}
 use lib.Ieee.{Float}
@@ -29,8 +29,10 @@ no_samples wave amplitude frequency earlier xs e = rw e
 
 pub counts_kept : CountsKept
 unfolding answer_of
-counts_kept wave amplitude frequency earlier xs h =
-    ⊎_elim (λ e. ap (told earlier) (no_samples wave amplitude frequency earlier xs e)) (λ l. rw (lt-ltb longest (length xs) l)) h
+counts_kept wave amplitude frequency earlier xs h = ⊎_elim none (λ l. rw (lt-ltb longest (length xs) l)) h
+  where
+    none : length xs ≡ 0 → told earlier (answer_of wave amplitude frequency earlier xs) ≡ earlier
+    none e = rw e
 
 pub long_refused : LongRefused
 unfolding answer_of
